@@ -1,0 +1,72 @@
+-- What the functions of this crate compute, over the values of IEEE 754 as the logic has them (`lib.Ieee`). Definitions only.
+use Prim.Native.Nat.{ℕ, _+_, _-_, _*_, _/_}
+use mathlib.Core.Bool.{Bool, false, not, cond, Bool·beq}
+use lib.Dec.{eqb}
+use lib.Ieee.{Float, nan, inf, fin, Format, up, down, unlike, round, sum}
+
+-- x as a value of the format f: to the nearest one, a tie to the one whose last digit is even
+unfoldable pub convert : Format → Float → Float
+convert f nan = nan
+convert f (inf s) = inf s
+convert f (fin s m e) = round f s (m * up e) (down e)
+
+-- ---- whole numbers. The sign is kept, so that -0.5 goes up to -0.
+
+-- a / c cut, raised to the next whole number, and to the nearest one, where a half goes up
+abbrev pub cut : ℕ → ℕ → ℕ
+cut a c = a / c
+
+abbrev pub lifted : ℕ → ℕ → ℕ
+lifted a c = (a + (c - 1)) / c
+
+abbrev pub halfUp : ℕ → ℕ → ℕ
+halfUp a c = (2 * a + c) / (2 * c)
+
+unfoldable pub floor : Format → Float → Float
+floor f nan = nan
+floor f (inf s) = inf s
+floor f (fin s m e) = round f s (cond s (lifted (m * up e) (down e)) (cut (m * up e) (down e))) 1
+
+unfoldable pub ceil : Format → Float → Float
+ceil f nan = nan
+ceil f (inf s) = inf s
+ceil f (fin s m e) = round f s (cond s (cut (m * up e) (down e)) (lifted (m * up e) (down e))) 1
+
+unfoldable pub roundAway : Format → Float → Float
+roundAway f nan = nan
+roundAway f (inf s) = inf s
+roundAway f (fin s m e) = round f s (halfUp (m * up e) (down e)) 1
+
+-- the value without its sign
+unfoldable pub magnitude : Float → Float
+magnitude nan = nan
+magnitude (inf s) = inf false
+magnitude (fin s m e) = fin false m e
+
+-- ---- a * b + c, rounded once
+-- finite, and not zero
+unfoldable pub regular : Float → Bool
+regular nan = false
+regular (inf s) = false
+regular (fin s m e) = not (eqb m 0)
+
+-- ±p / q, exact, and c
+unfoldable pub plus : Format → Bool → ℕ → ℕ → Float → Float
+plus f s p q nan = nan
+plus f s p q (inf t) = inf t
+plus f s p q (fin t n d) = sum f s (p * down d) t (n * up d * q) (q * down d)
+
+-- an infinity, and c
+unfoldable pub infPlus : Bool → Float → Float
+infPlus s nan = nan
+infPlus s (inf t) = cond (Bool·beq s t) (inf s) nan
+infPlus s (fin t n d) = inf s
+
+unfoldable pub fma : Format → Float → Float → Float → Float
+fma f nan b c = nan
+fma f (inf s) nan c = nan
+fma f (inf s) (inf t) c = infPlus (unlike s t) c
+fma f (inf s) (fin t n d) c = cond (eqb n 0) nan (infPlus (unlike s t) c)
+fma f (fin s m e) nan c = nan
+fma f (fin s m e) (inf t) c = cond (eqb m 0) nan (infPlus (unlike s t) c)
+fma f (fin s m e) (fin t n d) c = plus f (unlike s t) (m * up e * (n * up d)) (down e * down d) c
