@@ -4,24 +4,24 @@ use mathlib.Core.Path.{_≡_, refl, sym, ap, _∙_, subst}
 use mathlib.Core.Logic.{_⊎_, inl, inr}
 use mathlib.Core.Bool.{Bool, true, false, not, cond}
 use Prim.Native.Nat.{ℕ, zero, suc, _+_, _-_, _*_, _/_, _%_, _^_, _≤_, _<_}
-use native.Mathlib.Nat.{le-trans, le-of-eq, le-of-suc-le-suc, le-antisymm, lt-of-lt-of-le, zero-lt-suc, mul-one, mul-comm, mul-assoc, mul-left-comm, mul-right-comm, suc-mul, add-mul, mul-add, mul-pos, mul-le-mul-right, le-of-mul-le-mul-right, eq-of-mul-eq-mul-right, div-lt-iff-lt-mul, div-one, div-add-mod', mod-lt, zero-add, eq-or-lt-of-le, mul-le-mul-left, div-le-self, div-div-eq-div-mul, add-div-right}
+use native.Mathlib.Nat.{le-trans, le-of-eq, le-of-suc-le-suc, le-antisymm, zero-lt-suc, mul-one, mul-comm, mul-assoc, mul-left-comm, mul-right-comm, suc-mul, add-mul, mul-add, mul-pos, mul-le-mul-right, le-of-mul-le-mul-right, div-lt-iff-lt-mul, div-one, div-add-mod', mod-lt, zero-add, eq-or-lt-of-le, mul-le-mul-left, div-le-self, div-div-eq-div-mul, add-div-right}
 use native.Mathlib.Omega.{arith}
 use lib.IntN.{pos}
-use lib.Dec.{T, ltb, le→leb}
+use lib.Dec.{T, le→leb}
 use lib.Arith.{digits-div}
-use lib.Pow.{pow-add, pow-pos, pow-mono, shl-lt, shr-le}
-use lib.Ieee.{Float, nan, inf, fin, Format, binary64, prec, emax, low, ones, up, down, size, odd, units, round, neg, fits, isNan, ofInt, inFloat, ofBits, toBits}
-use lib.Ieee.Back.{whole-unique}
+use lib.Pow.{pow-add, pow-pos, shr-le}
+use lib.Ieee.{Float, nan, inf, fin, Format, binary64, prec, low, ones, up, down, round, neg, fits, isNan, ofInt, inFloat, ofBits, toBits}
 use lib.Ieee.Bits.{ofBits-fits, ofBits-toBits}
-use lib.Ieee.Exact.{HasValue, round-exact}
-use lib.Ieee.Fits.{round-is, round-fits, two, down-pos}
-use lib.Ieee.Nearest.{closest, div-same}
+use lib.Ieee.Exact.{HasValue}
+use lib.Ieee.Fits.{down-pos}
+use lib.Ieee.Nearest.{div-same}
 use Rattle.rounding.specs.Fields.{field, digits, place, negative}
 use borrow.Author.Tests.{le-leb, lt-leb}
 use Rattle.rounding.specs.Sticky.{some}
 use Rattle.rounding.specs.Rounding.{cut, lifted, halfUp, floor, ceil, roundAway}
+use Rattle.rounding.proofs.Exact.{value-same, round-same-float}
+use Rattle.rounding.proofs.Signs.{round-not}
 use Rattle.rounding.proofs.Sticky.{power}
-use Rattle.rounding.proofs.Pattern.{some-emax}
 use Rattle.rounding.proofs.Read.{read, read-inf, digits-lt, field-le, no-nan-bits}
 
 -- ---- equal fractions have the same whole numbers about them
@@ -54,7 +54,7 @@ half-same a c b d C D e =
     sum : (x y p q : ℕ) → x ≡ y → p ≡ q → x + p ≡ y + q
     sum x y p q g h = omega arith
 
--- ---- the three of a value that equals a / c
+-- ---- floor and the nearest whole number of a value that equals a / c
 module _ (f : Format) where
   pub floor-value : (x : Float) (s : Bool) (a c : ℕ) → 0 < c → HasValue x s a c → floor f x ≡ round f s (cond s (lifted a c) (cut a c)) 1
   unfolding floor
@@ -65,15 +65,6 @@ module _ (f : Format) where
       ∙ ap (λ (x : ℕ). round f s (cond s x (cut (m * up e) (down e))) 1) (lifted-same (m * up e) (down e) a c (down-pos e) C (v .1))
       ∙ ap (λ (x : ℕ). round f s (cond s (lifted a c) x) 1) (div-same (m * up e) (down e) a c (down-pos e) C (v .1))
 
-  pub ceil-value : (x : Float) (s : Bool) (a c : ℕ) → 0 < c → HasValue x s a c → ceil f x ≡ round f s (cond s (cut a c) (lifted a c)) 1
-  unfolding ceil
-  ceil-value nan s a c C v = absurd v
-  ceil-value (inf t) s a c C v = absurd v
-  ceil-value (fin t m e) s a c C v =
-      ap (λ (b : Bool). round f b (cond b (cut (m * up e) (down e)) (lifted (m * up e) (down e))) 1) (v .0)
-      ∙ ap (λ (x : ℕ). round f s (cond s (cut (m * up e) (down e)) x) 1) (lifted-same (m * up e) (down e) a c (down-pos e) C (v .1))
-      ∙ ap (λ (x : ℕ). round f s (cond s x (lifted a c)) 1) (div-same (m * up e) (down e) a c (down-pos e) C (v .1))
-
   pub away-value : (x : Float) (s : Bool) (a c : ℕ) → 0 < c → HasValue x s a c → roundAway f x ≡ round f s (halfUp a c) 1
   unfolding roundAway
   away-value nan s a c C v = absurd v
@@ -83,13 +74,7 @@ module _ (f : Format) where
 
 -- ---- a power of two taken off both parts of a fraction
 pub value-down : (x : Float) (s : Bool) (a k l : ℕ) → HasValue x s (a * 2 ^ k) (2 ^ (l + k)) → HasValue x s a (2 ^ l)
-value-down nan s a k l v = v
-value-down (inf t) s a k l v = v
-value-down (fin t m e) s a k l v = (
-  v .0,
-  eq-of-mul-eq-mul-right (2 ^ k) (pow-pos k) (m * up e * 2 ^ l) (a * down e)
-      (mul-assoc (m * up e) (2 ^ l) (2 ^ k) ∙ ap (λ (x : ℕ). m * up e * x) (sym (pow-add 2 l k)) ∙ v .1 ∙ mul-right-comm a (2 ^ k) (down e)),
-)
+value-down x s a k l v = value-same x s (a * 2 ^ k) (2 ^ (l + k)) a (2 ^ l) (pow-pos (l + k)) v (mul-right-comm a (2 ^ k) (2 ^ l) ∙ mul-assoc a (2 ^ l) (2 ^ k) ∙ ap (λ (z : ℕ). a * z) (sym (pow-add 2 l k)))
 
 -- ---- a value that is whole
 cut-one : (n : ℕ) → cut n 1 ≡ n
@@ -121,55 +106,28 @@ module _ (f : Format) (b : ℕ) (finite : field f b < ones f) (whole : low f ≤
       (subst (λ (x : ℕ). HasValue (ofBits f b) (negative f b) x (2 ^ low f)) (ap (λ (x : ℕ). digits f b * x) split ∙ sym (mul-assoc (digits f b) (2 ^ j) (2 ^ low f))) (read f b finite)))
 
   itself : round f (negative f b) n 1 ≡ ofBits f b
-  unfolding n place
-  itself =
-      let k = place f b in
-      let j = k - low f in
-      let split : 2 ^ j * 2 ^ low f ≡ 2 ^ k = sym (pow-add 2 j (low f)) ∙ ap (λ (x : ℕ). 2 ^ x) (omega arith) in
-      whole-unique f (round f (negative f b) n 1) (ofBits f b) (negative f b) n (round-fits f (negative f b) n 1) (ofBits-fits f b)
-      (round-exact f (negative f b) n 1 (digits f b) k (zero-lt-suc 0) (digits-lt f b)
-      (lt-of-lt-of-le (shl-lt (prec f) k (digits-lt f b)) (pow-mono (room (prec f) (emax f) (field f b) (two f) (some-emax f) finite)))
-      (mul-assoc (digits f b) (2 ^ j) (2 ^ low f) ∙ ap (λ (x : ℕ). digits f b * x) split ∙ sym (mul-one (digits f b * 2 ^ k))))
-      value
-    where
-      room : (p e x : ℕ) → 2 ≤ p → 0 < 2 * e → x < 2 * e + 1 → p + (x - 1) ≤ e + p - 2 + suc e
-      room p e x P E h = omega arith
+  itself = round-same-float f (ofBits f b) (negative f b) n 1 (zero-lt-suc 0) (ofBits-fits f b) value
 
   pub floor-whole : floor f (ofBits f b) ≡ ofBits f b
   floor-whole =
       let s = negative f b in
       floor-value f (ofBits f b) s n 1 (zero-lt-suc 0) value ∙ ap (λ (x : ℕ). round f s x 1) (either s (lifted n 1) (cut n 1) n (lifted-one n) (cut-one n)) ∙ itself
 
-  pub ceil-whole : ceil f (ofBits f b) ≡ ofBits f b
-  ceil-whole =
-      let s = negative f b in
-      ceil-value f (ofBits f b) s n 1 (zero-lt-suc 0) value ∙ ap (λ (x : ℕ). round f s x 1) (either s (cut n 1) (lifted n 1) n (cut-one n) (lifted-one n)) ∙ itself
-
   pub away-whole : roundAway f (ofBits f b) ≡ ofBits f b
   away-whole =
       let s = negative f b in
       away-value f (ofBits f b) s n 1 (zero-lt-suc 0) value ∙ ap (λ (x : ℕ). round f s x 1) (half-one n) ∙ itself
 
--- the sign goes through `round`
-neg-odd : (d : ℕ) (s : Bool) (q k l : ℕ) → neg (odd d s q k l) ≡ odd d (not s) q k l
-unfolding neg odd
-neg-odd d s zero k l = refl
-neg-odd d s (suc q) k l = refl
+-- ---- upwards is downwards of the negative
+pub ceil-floor : (f : Format) (x : Float) → neg (floor f (neg x)) ≡ ceil f x
+unfolding ceil floor neg
+ceil-floor f nan = refl
+ceil-floor f (inf true) = refl
+ceil-floor f (inf false) = refl
+ceil-floor f (fin true m e) = sym (round-not f false (cut (m * up e) (down e)) 1)
+ceil-floor f (fin false m e) = sym (round-not f true (lifted (m * up e) (down e)) 1)
 
-neg-units : (f : Format) (s : Bool) (q k : ℕ) → neg (units f s q k) ≡ units f (not s) q k
-unfolding units neg
-neg-units f s q k = go (ltb (q * 2 ^ k) (2 ^ (low f + suc (emax f))))
-  where
-    go : (b : Bool) → neg (cond b (odd (suc (prec f)) s q k (low f)) (inf s)) ≡ cond b (odd (suc (prec f)) (not s) q k (low f)) (inf (not s))
-    go true = neg-odd (suc (prec f)) s q k (low f)
-    go false = refl
-
-pub neg-round : (f : Format) (s : Bool) (n d : ℕ) → neg (round f s n d) ≡ round f (not s) n d
-neg-round f s n d =
-    let k = size (n * 2 ^ low f / d) - prec f in
-    ap neg (round-is f s n d) ∙ neg-units f s (closest (n * 2 ^ low f) (d * 2 ^ k)) k ∙ sym (round-is f (not s) n d)
-
--- ---- how the code comes to the three
+-- ---- how the code comes to them
 pub lifted-some : (d u : ℕ) → 0 < u → lifted d u ≡ d / u + some (d % u)
 lifted-some d u B = go (d % u) refl (div-add-mod' d u) (mod-lt d B)
   where
@@ -204,7 +162,7 @@ signed true n = neg (ofInt binary64 (pos n))
 signed-is : (s : Bool) (n : ℕ) → signed s n ≡ round binary64 s n 1
 unfolding ofInt
 signed-is false n = refl
-signed-is true n = neg-round binary64 false n 1
+signed-is true n = sym (round-not binary64 false n 1)
 
 below-ones : (b : ℕ) → place binary64 b < 1074 → field binary64 b < 2047
 unfolding place
@@ -225,11 +183,6 @@ module _ (x : Float) (held : T (fits binary64 x)) (p d : ℕ) (P : p ≡ place b
   floor-part s n S N =
       signed-is s n ∙ ap (λ (k : ℕ). round binary64 s k 1) N
       ∙ sym (floor-value binary64 x s d (2 ^ (1074 - p)) (pow-pos (1074 - p)) (subst (λ (t : Bool). HasValue x t d (2 ^ (1074 - p))) S part))
-
-  pub ceil-part : (s : Bool) (n : ℕ) → negative binary64 (toBits binary64 x) ≡ s → n ≡ cond s (cut d (2 ^ (1074 - p))) (lifted d (2 ^ (1074 - p))) → signed s n ≡ ceil binary64 x
-  ceil-part s n S N =
-      signed-is s n ∙ ap (λ (k : ℕ). round binary64 s k 1) N
-      ∙ sym (ceil-value binary64 x s d (2 ^ (1074 - p)) (pow-pos (1074 - p)) (subst (λ (t : Bool). HasValue x t d (2 ^ (1074 - p))) S part))
 
   pub away-part : (s : Bool) (n : ℕ) → negative binary64 (toBits binary64 x) ≡ s → n ≡ halfUp d (2 ^ (1074 - p)) → signed s n ≡ roundAway binary64 x
   away-part s n S N =
@@ -259,10 +212,6 @@ module _ (x : Float) (held : T (fits binary64 x)) (no : T (not (isNan x))) (high
   unfolding floor
   floor-kept = kept (floor binary64) (λ s. refl) (λ l. floor-whole binary64 (toBits binary64 x) l high)
 
-  pub ceil-kept : x ≡ ceil binary64 x
-  unfolding ceil
-  ceil-kept = kept (ceil binary64) (λ s. refl) (λ l. ceil-whole binary64 (toBits binary64 x) l high)
-
   pub away-kept : x ≡ roundAway binary64 x
   unfolding roundAway
   away-kept = kept (roundAway binary64) (λ s. refl) (λ l. away-whole binary64 (toBits binary64 x) l high)
@@ -270,10 +219,6 @@ module _ (x : Float) (held : T (fits binary64 x)) (no : T (not (isNan x))) (high
 pub floor-nan : (x : Float) → x ≡ nan → x ≡ floor binary64 x
 unfolding floor
 floor-nan x e = subst (λ (y : Float). y ≡ floor binary64 y) (sym e) refl
-
-pub ceil-nan : (x : Float) → x ≡ nan → x ≡ ceil binary64 x
-unfolding ceil
-ceil-nan x e = subst (λ (y : Float). y ≡ ceil binary64 y) (sym e) refl
 
 pub away-nan : (x : Float) → x ≡ nan → x ≡ roundAway binary64 x
 unfolding roundAway

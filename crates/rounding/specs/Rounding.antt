@@ -1,14 +1,22 @@
--- What the functions of this crate compute, over the values of IEEE 754 as the logic has them (`lib.Ieee`). Definitions only.
+-- Document 01, 'Rounding', from bits: what the functions of this crate compute, over the values of IEEE 754 as the logic has them (`lib.Ieee`). Definitions only.
+-- `round f s a c` of `lib.Ieee` is the value of the format f nearest to a / c, a tie to the one whose last digit is even, with the sign s. `fin s m e` is m * 2 ^ e, which is m * up e / down e.
 use Prim.Native.Nat.{ℕ, _+_, _-_, _*_, _/_}
 use mathlib.Core.Bool.{Bool, false, not, cond, Bool·beq}
 use lib.Dec.{eqb}
-use lib.Ieee.{Float, nan, inf, fin, Format, up, down, unlike, round, sum}
+use lib.Ieee.{Float, nan, inf, fin, Format, binary32, up, down, unlike, round, sum, add, rem, lt, ofBits, toBits, toUnsigned}
 
--- x as a value of the format f: to the nearest one, a tie to the one whose last digit is even
+-- x as a value of the format f
 unfoldable pub convert : Format → Float → Float
 convert f nan = nan
 convert f (inf s) = inf s
 convert f (fin s m e) = round f s (m * up e) (down e)
+
+-- the f32 pattern of an f64, and back: the NaN is written as 7FC00000, and every NaN pattern is read as the NaN
+unfoldable pub narrow : Float → ℕ
+narrow x = toBits binary32 (convert binary32 x)
+
+unfoldable pub widen : ℕ → Float
+widen b = ofBits binary32 b
 
 -- ---- whole numbers. The sign is kept, so that -0.5 goes up to -0.
 
@@ -37,11 +45,19 @@ roundAway f nan = nan
 roundAway f (inf s) = inf s
 roundAway f (fin s m e) = round f s (halfUp (m * up e) (down e)) 1
 
+-- without the fraction, as u64: 0 for a negative value and the NaN, and 2 ^ 64 - 1 from 2 ^ 64 on
+abbrev pub truncate : Float → ℕ
+truncate x = toUnsigned 64 x
+
 -- the value without its sign
 unfoldable pub magnitude : Float → Float
 magnitude nan = nan
 magnitude (inf s) = inf false
 magnitude (fin s m e) = fin false m e
+
+-- the remainder that is not negative, as Rust's `rem_euclid`: `rem` is Rust's `%`, and the sum is rounded
+unfoldable pub remEuclid : Format → Float → Float → Float
+remEuclid f a b = cond (lt (rem f a b) (ofBits f 0)) (add f (rem f a b) (magnitude b)) (rem f a b)
 
 -- ---- a * b + c, rounded once
 -- finite, and not zero

@@ -1,10 +1,9 @@
 // Whole numbers: floor, ceil, round half away from zero, and truncation. Each works on the digits
 // of x's pattern: x is digits / 2^s, with s = 1074 - place, and is whole where s would be 0 or less.
 ghost use mathlib.Core.Path.{_≡_};
-ghost use Prim.Native.Nat.{_+_, _-_, _*_, _/_, _^_, _<_, _≤_};
-ghost use lib.Ieee as Ieee;
+ghost use Prim.Native.Nat.{_+_, _-_, _/_, _^_, _<_, _≤_};
 ghost use lib.Ieee.{binary64};
-ghost use Rattle.rounding.specs.Rounding.{floor, ceil, roundAway, magnitude, cut, lifted, halfUp};
+ghost use Rattle.rounding.specs.Rounding.{floor, ceil, roundAway, truncate, cut, lifted, halfUp};
 use super::bits::digits_of;
 use super::bits::place_of;
 use super::bits::some;
@@ -37,17 +36,6 @@ fn half_up(d: u64, s: u64) -> u64
     (cut(d, s - 1) + 1) / 2
 }
 
-// x without its sign.
-pub fn magnitude(x: f64) -> f64
-    ensures { λ r. ⌜ r ≡ magnitude x ⌝ }
-{
-    if x != x {
-        x
-    } else {
-        f64::from_bits(f64::to_bits(x) % 0x8000_0000_0000_0000)
-    }
-}
-
 // The largest whole number that is not above x. A zero keeps its sign.
 pub fn floor(x: f64) -> f64
     ensures { λ r. ⌜ r ≡ floor binary64 x ⌝ }
@@ -72,20 +60,7 @@ pub fn floor(x: f64) -> f64
 pub fn ceil(x: f64) -> f64
     ensures { λ r. ⌜ r ≡ ceil binary64 x ⌝ }
 {
-    if x != x {
-        return x;
-    }
-    let b = f64::to_bits(x);
-    let place = place_of(b);
-    if place >= 1074 {
-        return x;
-    }
-    let d = digits_of(b);
-    if b < 0x8000_0000_0000_0000 {
-        lifted(d, 1074 - place) as f64
-    } else {
-        -(cut(d, 1074 - place) as f64)
-    }
+    -floor(-x)
 }
 
 // The whole number nearest to x, a half going away from zero.
@@ -106,7 +81,7 @@ pub fn round_away(x: f64) -> f64
 
 // x without its fraction: 0 for what is negative and for a NaN, and 2^64 - 1 from 2^64 on.
 pub fn truncate(x: f64) -> u64
-    ensures { λ r. ⌜ r ≡ Ieee.toUnsigned 64 x ⌝ }
+    ensures { λ r. ⌜ r ≡ truncate x ⌝ }
 {
     if x >= 18446744073709551616.0 {
         0xffff_ffff_ffff_ffff

@@ -1,8 +1,8 @@
 -- `rounding::nearness::near_zero` meets its contract. Assumes nothing.
 use mathlib.Core.Path.{ap}
-use lib.Ieee.{Float, lt, ofBits}
+use lib.Ieee.{Float, lt}
 use borrow.Author.Needs.{needs}
-use Rattle.rounding.specs.Near.{grain, nearZero}
+use Rattle.rounding.specs.Near.{nearZero}
 use Rattle.rounding.proofs.nearness.near_zero.Statement.{statement}
 use Rattle.rounding.proofs.nearness.near_zero.Tie as tie
 
@@ -10,8 +10,8 @@ magnitude-requires : tie.Need-magnitude-requires
 magnitude-requires c κs = search needs
 
 returns : tie.Need-returns
-unfolding nearZero ofBits
-returns c = ap (λ (x : Float). lt x grain) (c .magnitude .ensures)
+unfolding nearZero
+returns c = ap (λ (x : Float). lt x (c .before .args .tolerance)) (c .magnitude .ensures)
 
 pub near-zero-spec : {M : Type 1} → statement M
 near-zero-spec = tie.close (tie.spec magnitude-requires returns)

@@ -1,0 +1,32 @@
+// The functions of `rounding` for C, to be measured beside C's own (tools/bench_rounding).
+ghost use mathlib.Core.Path.{_≡_};
+ghost use lib.Ieee.{binary64};
+ghost use Rattle.rounding.specs.Rounding.{floor, fma, narrow, truncate};
+
+#[no_mangle]
+pub extern "C" fn rounding_fma(a: f64, b: f64, c: f64) -> f64
+    ensures { λ r. ⌜ r ≡ fma binary64 a b c ⌝ }
+{
+    rounding::fma(a, b, c)
+}
+
+#[no_mangle]
+pub extern "C" fn rounding_narrow(x: f64) -> u32
+    ensures { λ r. ⌜ r ≡ narrow x ⌝ }
+{
+    rounding::narrow(x)
+}
+
+#[no_mangle]
+pub extern "C" fn rounding_floor(x: f64) -> f64
+    ensures { λ r. ⌜ r ≡ floor binary64 x ⌝ }
+{
+    rounding::floor(x)
+}
+
+#[no_mangle]
+pub extern "C" fn rounding_truncate(x: f64) -> u64
+    ensures { λ r. ⌜ r ≡ truncate x ⌝ }
+{
+    rounding::truncate(x)
+}
