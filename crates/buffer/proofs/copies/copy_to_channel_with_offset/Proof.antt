@@ -1,0 +1,96 @@
+-- `buffer::copies::copy_to_channel_with_offset` meets its contract: an accepted copy stays within the samples (`Accepted.antt`), and leaves what `Moved.antt` says. Assumes nothing.
+use mathlib.Core.Path.{sym, _∙_}
+use Prim.Native.Nat.{_+_, _*_}
+use native.Mathlib.Omega.{arith}
+use lib.Seq.{length-take-le}
+use Rattle.buffer.proofs.Accepted.{accepted}
+use Rattle.buffer.proofs.Moved.{in-length, into}
+use borrow.Author.Needs.{needs}
+use Rattle.buffer.proofs.copies.copy_to_channel_with_offset.Statement.{statement}
+use Rattle.buffer.proofs.copies.copy_to_channel_with_offset.Tie as tie
+
+checked-requires : tie.Need-checked-requires
+checked-requires c κs = search needs
+
+enum-known-answer : tie.Need-enum-known-answer
+enum-known-answer c = search needs
+
+mul-at : tie.Need-mul-at
+mul-at c =
+    let a = accepted (sym (c .before .before .before .checked .ensures) ∙ c .before .answer .given .1) in
+    omega arith
+
+smaller-requires : tie.Need-smaller-requires
+smaller-requires c κs = search needs
+
+add-at : tie.Need-add-at
+add-at c =
+    let a = accepted (sym (c .before .before .before .before .checked .ensures) ∙ c .before .before .answer .given .1) in
+    omega arith
+
+add-copy-frames : tie.Need-add-copy-frames
+add-copy-frames c =
+    let a = accepted (sym (c .before .before .before .before .checked .ensures) ∙ c .before .before .answer .given .1) in
+    omega arith
+
+mul-copy-frames : tie.Need-mul-copy-frames
+mul-copy-frames c =
+    let a = accepted (sym (c .before .before .before .before .checked .ensures) ∙ c .before .before .answer .given .1) in
+    omega arith
+
+sub-copy-frames : tie.Need-sub-copy-frames
+sub-copy-frames c = search needs
+
+part-copy-frames-start : tie.Need-part-copy-frames-start
+part-copy-frames-start c = search needs
+
+part-copy-frames-end : tie.Need-part-copy-frames-end
+part-copy-frames-end c =
+    let a = accepted (sym (c .before .before .before .before .checked .ensures) ∙ c .before .before .answer .given .1) in
+    omega arith
+
+slice-aggregate-copy-frames : tie.Need-slice-aggregate-copy-frames
+slice-aggregate-copy-frames c =
+    let a = accepted (sym (c .before .before .before .before .before .before .checked .ensures) ∙ c .before .before .before .before .answer .given .1) in
+    sym (length-take-le _ _ (omega arith))
+
+copy-frames-requires : tie.Need-copy-frames-requires
+copy-frames-requires c κs =
+    let a = accepted (sym (c .before .before .before .before .before .before .checked .ensures) ∙ c .before .before .before .before .answer .given .1) in
+    let at = c .before .before .before .before .before .before .before .before .before .args .frames * c .before .before .before .before .before .before .before .before .before .args .number + c .before .before .smaller .result in
+    in-length _ _ at (c .before .before .before .before .answer .given .0 .0) (omega arith) (omega arith)
+
+enum-told : tie.Need-enum-told
+enum-told c = search needs
+
+same-length : tie.Need-same-length
+same-length c = search needs
+
+returns : tie.Need-returns
+returns c =
+    let a = accepted (sym (c .before .before .before .before .before .before .before .before .before .checked .ensures) ∙ c .before .before .before .before .before .before .before .answer .given .1) in
+    (sym (c .before .before .before .before .before .before .before .answer .given .1) ∙ c .before .before .before .before .before .before .before .before .before .checked .ensures, into _ _ _ _ _ _ _ _ _ (c .before .before .before .before .before .smaller .ensures) (a .moved) (c .before .before .copy-frames .ensures))
+
+returns-2 : tie.Need-returns-2
+returns-2 c = search needs
+
+pub copy-to-channel-with-offset-spec : {M : Type 1} → statement M
+copy-to-channel-with-offset-spec =
+    tie.close
+    (tie.spec
+    checked-requires
+    enum-known-answer
+    mul-at
+    smaller-requires
+    add-at
+    add-copy-frames
+    mul-copy-frames
+    sub-copy-frames
+    part-copy-frames-start
+    part-copy-frames-end
+    slice-aggregate-copy-frames
+    copy-frames-requires
+    enum-told
+    same-length
+    returns
+    returns-2)
