@@ -1,0 +1,28 @@
+-- A sub-sample block's output by its three arrays is the output by its infos. Assumes nothing.
+use mathlib.Core.Path.{_≡_, ap}
+use mathlib.Core.Bool.{Bool, false}
+use mathlib.Core.List.{List}
+use Prim.Native.Nat.{ℕ, _<_}
+use lib.ListN.{getD}
+use lib.Ieee.{Float, nan}
+use Rattle.lists.specs.Table.{table, getD-table}
+use Rattle.player.proofs.Tables.{written-same}
+use Rattle.player.specs.declared.Settings.{Settings}
+use Rattle.player.specs.declared.Playhead.{Playhead}
+use Rattle.player.specs.declared.Infos.{Infos}
+use Rattle.player.specs.SubSample.{infoOfSample, headAt, sampleOf}
+use Rattle.player.specs.Infos.{infoIn, infosOf, sampleBy}
+use Rattle.player.specs.Block.{written}
+
+module _ (s : Settings) (h : Playhead) where
+  sample-by : (l : List ℕ) (i : ℕ) → i < 128
+      → sampleBy s (table 128 (λ k. infoIn s h k .«prev_frame_index» .0)) (table 128 (λ k. infoIn s h k .k)) (table 128 (λ k. infoIn s h k .present)) l i
+      ≡ sampleOf s l (infoOfSample s i (headAt s h i))
+  unfolding sampleBy
+  sample-by l i b =
+      rw (getD-table 128 (λ k. infoIn s h k .«prev_frame_index» .0) i 0 b, getD-table 128 (λ k. infoIn s h k .k) i nan b, getD-table 128 (λ k. infoIn s h k .present) i false b)
+
+  pub by-infos : (infos : Infos) (frames : ℕ) (samples out : List ℕ) (count : ℕ) → infos ≡ infosOf 128 s h
+      → written 128 (sampleBy s (infos .frame) (infos .fraction) (infos .present)) frames samples out count
+      ≡ written 128 (λ l i. sampleOf s l (infoOfSample s i (headAt s h i))) frames samples out count
+  by-infos infos frames samples out count e = rw e (written-same 128 _ _ frames samples out count sample-by)
