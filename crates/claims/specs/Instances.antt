@@ -1,0 +1,60 @@
+-- Lists of calls that meet the premises of the long-run statement. Definitions only.
+use mathlib.Core.Path.{_≡_}
+use mathlib.Core.Bool.{Bool, true, false}
+use mathlib.Core.List.{List, [], _∷_}
+use Prim.Native.Nat.{ℕ}
+use lib.Dec.{T}
+use lib.IntN.{pos, negsuc}
+use lib.ListN.{length, replicate}
+use lib.Ieee.{Float, fin, binary32, fits}
+use Rattle.buffer.specs.Limits.{validRate}
+use Rattle.player.specs.Seconds.{none, never, one}
+use Rattle.player.specs.Record.{fresh}
+use Rattle.player.specs.declared.ControlMessage.the-variants.{Start, Stop, Loop}
+use Rattle.claims.specs.Calls.{Call, buffer, message, block, allTyped, accepted, playing}
+use Rattle.claims.specs.LongRun.{Premises}
+
+-- 48,000 = 375 × 2 ^ 7, and three frames: 1.0, 2.0, 3.0
+abbrev pub rate : Float
+rate = fin false 375 (pos 7)
+
+abbrev pub frames : List ℕ
+frames = 0x3f80_0000 ∷ 0x4000_0000 ∷ 0x4040_0000 ∷ []
+
+abbrev pub clip : Call
+clip = buffer 1 3 rate frames
+
+abbrev pub start : Call
+start = message (Start none none never)
+
+-- a block lent an output of 4,096 words
+abbrev pub blockAt : Float → Call
+blockAt time = block (replicate 4096 7) frames time one one
+
+-- 1/256 s and 1/128 s; the first block ends between them, at 1/375 s
+abbrev pub tick : Float
+tick = fin false 1 (negsuc 7)
+
+abbrev pub tock : Float
+tock = fin false 1 (negsuc 6)
+
+-- refused calls are strewn in: a stop before the start, a second start, a second clip, a block at the last block's time
+abbrev pub loopedCalls : List Call
+loopedCalls = message (Stop none) ∷ clip ∷ start ∷ start ∷ message (Loop true) ∷ clip ∷ blockAt none ∷ blockAt none ∷ blockAt tick ∷ []
+
+abbrev pub plainCalls : List Call
+plainCalls = start ∷ clip ∷ blockAt none ∷ blockAt tick ∷ []
+
+abbrev pub stoppedCalls : List Call
+stoppedCalls = start ∷ message (Stop tick) ∷ clip ∷ blockAt none ∷ blockAt tick ∷ blockAt tock ∷ []
+
+-- the premises are met, and this many blocks are accepted
+pub record Met (calls : List Call) (blocks : ℕ) : Type 0 where
+  pub single : T (fits binary32 rate)
+  pub valid : T (validRate rate)
+  pub typed : T (allTyped calls)
+  pub premises : Premises rate (accepted (fresh rate) calls)
+  pub played : length (playing (accepted (fresh rate) calls)) ≡ blocks
+
+abbrev pub Instances : Type 0
+Instances = Met loopedCalls 2 × Met plainCalls 2 × Met stoppedCalls 3

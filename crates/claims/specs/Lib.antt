@@ -1,0 +1,5 @@
+-- Statements about the definitions of the other crates.
+pub mod Calls
+pub mod LongRun
+pub mod Instances
+pub mod Known

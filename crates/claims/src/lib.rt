@@ -1,0 +1,25 @@
+// What stands above the calls: statements about their definitions, each pinned to a function with
+// an empty body, so that the check names it.
+ghost use Rattle.claims.specs.Instances.{Instances};
+ghost use Rattle.claims.specs.Known.{KnownFrames};
+ghost use Rattle.claims.specs.LongRun.{LongRun};
+
+// Demand 3, for every list of calls on one fresh player.
+pub fn long_run()
+    ensures { λ _. ⌜ LongRun ⌝ }
+{
+}
+
+// Lists of calls that meet its premises: looped, unlooped, and with a stop.
+pub fn premises_are_met()
+    ensures { λ _. ⌜ Instances ⌝ }
+{
+}
+
+// Document 01's starred known frames. Those of rounding and of buffers are their crates' claims.
+pub fn known_frames()
+    ensures { λ _. ⌜ KnownFrames ⌝ }
+{
+    rounding::known_rounding();
+    buffer::known_buffer();
+}
