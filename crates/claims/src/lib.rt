@@ -7,14 +7,12 @@ ghost use Rattle.claims.specs.LongRun.{LongRun};
 // Demand 3, for every list of calls on one fresh player.
 pub fn long_run()
     ensures { λ _. ⌜ LongRun ⌝ }
-{
-}
+{}
 
 // Lists of calls that meet its premises: looped, unlooped, and with a stop.
 pub fn premises_are_met()
     ensures { λ _. ⌜ Instances ⌝ }
-{
-}
+{}
 
 // Document 01's starred known frames. Those of rounding and of buffers are their crates' claims.
 pub fn known_frames()

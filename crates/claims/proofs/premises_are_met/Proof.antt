@@ -1,6 +1,9 @@
 -- `claims::premises_are_met` meets its contract: antt computes each list. Assumes nothing.
-use mathlib.Core.Path.{refl}
-use lib.Dec.{lit≤}
+use mathlib.Core.Path.{_≡_, refl}
+use mathlib.Core.List.{List, [], _∷_}
+use Prim.Native.Nat.{ℕ, _≤_}
+use lib.Dec.{T, lit≤}
+use lib.ListN.{length}
 use lib.Ieee.{ofBits, ofInt, round, sum, add, mul, div, rem, lt, le, eq, ne, fits, neg, sub, toUnsigned}
 use Rattle.rounding.specs.Rounding.{roundAway}
 use Rattle.buffer.specs.Limits.{validRate, validShape, duration}
@@ -10,79 +13,55 @@ use Rattle.player.specs.Messages.{clampedStart, clampedEnd, clamped, badTime, o
 use Rattle.player.specs.Aligned.{firstFrame, endsWithin, played, nextFrame, lastWrap, alignedPosition}
 use Rattle.player.specs.SubSample.{headAt}
 use Rattle.player.specs.Block.{idle, startAt, isAligned, hasEnded, turnsOver, alignedPlan, subSamplePlan, settings, firstHead, plan, badBlockTime, badRate, badSamples, refusal, rendered}
-use Rattle.claims.specs.Calls.{accepts, next, accepted, opening, playing}
+use Rattle.claims.specs.Calls.{Call, allTyped, accepts, next, accepted, opening, playing, Clip, Started, clipIn, startIn, stopIn, switchIn, pointIn, gathered}
+use Rattle.claims.specs.LongRun.{startsInTime, OnlyBlocks}
 use Rattle.claims.specs.Instances.{rate, frames, loopedCalls, plainCalls, stoppedCalls, Met}
 use Rattle.claims.proofs.premises_are_met.Statement.{statement}
 use Rattle.claims.proofs.premises_are_met.Tie as tie
 
-looped : Met loopedCalls 2
-unfolding accepted accepts next opening playing handled buffered onStart onStop onLoop badTime clamped clampedStart clampedEnd fresh validRate validShape duration rendered refusal badBlockTime badRate badSamples plan isAligned startAt alignedPlan subSamplePlan settings firstHead headAt hasEnded turnsOver firstFrame endsWithin played nextFrame lastWrap alignedPosition dt blockSeconds blockEnd idle roundAway ofBits ofInt round sum add mul div rem lt le eq ne fits neg sub toUnsigned
-looped = record {
+abbrev ownClip : Clip
+ownClip = record { channels = 1; frames = 3; rate = rate; samples = frames }
+
+abbrev ownStart : Started
+ownStart = record { when = none; offset = none; duration = never }
+
+-- a list is met by what its accepted calls hold
+met : (calls : List Call) (blocks : ℕ) → T (allTyped calls) → gathered clipIn (opening (accepted (fresh rate) calls)) ≡ ownClip ∷ [] → gathered startIn (opening (accepted (fresh rate) calls)) ≡ ownStart ∷ []
+    → T (startsInTime none (playing (accepted (fresh rate) calls))) → length (gathered switchIn (opening (accepted (fresh rate) calls))) ≤ 1 → length (gathered stopIn (opening (accepted (fresh rate) calls))) ≤ 1
+    → gathered pointIn (opening (accepted (fresh rate) calls)) ≡ [] → OnlyBlocks frames (playing (accepted (fresh rate) calls)) → length (playing (accepted (fresh rate) calls)) ≡ blocks → Met calls blocks
+unfolding validRate ofBits ofInt round lt le eq fits
+met calls blocks typed clips starts time switches stops points plain played = record {
   single = tt;
   valid = tt;
-  typed = tt;
+  typed = typed;
   premises = record {
-    clip = record { channels = 1; frames = 3; rate = rate; samples = frames };
-    start = record { when = none; offset = none; duration = never };
-    oneClip = refl;
+    clip = ownClip;
+    start = ownStart;
+    oneClip = clips;
     ownRate = refl;
-    oneStart = refl;
-    inTime = tt;
+    oneStart = starts;
+    inTime = time;
     noOffset = tt;
     noDuration = refl;
-    fewSwitches = lit≤ tt;
-    fewStops = lit≤ tt;
-    noPoints = refl;
-    onlyBlocks = ((refl, refl, refl), ((refl, refl, refl), tt));
+    fewSwitches = switches;
+    fewStops = stops;
+    noPoints = points;
+    onlyBlocks = plain;
   };
-  played = refl;
+  played = played;
 }
+
+looped : Met loopedCalls 2
+unfolding accepted accepts next opening playing handled buffered onStart onStop onLoop badTime clamped clampedStart clampedEnd fresh validRate validShape duration rendered refusal badBlockTime badRate badSamples plan isAligned startAt alignedPlan subSamplePlan settings firstHead headAt hasEnded turnsOver firstFrame endsWithin played nextFrame lastWrap alignedPosition dt blockSeconds blockEnd idle roundAway ofBits ofInt round sum add mul div rem lt le eq ne neg sub toUnsigned fits
+looped = met loopedCalls 2 tt refl refl tt (lit≤ tt) (lit≤ tt) refl ((refl, refl, refl), ((refl, refl, refl), tt)) refl
 
 plain : Met plainCalls 2
-unfolding accepted accepts next opening playing handled buffered onStart onStop onLoop badTime clamped clampedStart clampedEnd fresh validRate validShape duration rendered refusal badBlockTime badRate badSamples plan isAligned startAt alignedPlan subSamplePlan settings firstHead headAt hasEnded turnsOver firstFrame endsWithin played nextFrame lastWrap alignedPosition dt blockSeconds blockEnd idle roundAway ofBits ofInt round sum add mul div rem lt le eq ne fits neg sub toUnsigned
-plain = record {
-  single = tt;
-  valid = tt;
-  typed = tt;
-  premises = record {
-    clip = record { channels = 1; frames = 3; rate = rate; samples = frames };
-    start = record { when = none; offset = none; duration = never };
-    oneClip = refl;
-    ownRate = refl;
-    oneStart = refl;
-    inTime = tt;
-    noOffset = tt;
-    noDuration = refl;
-    fewSwitches = lit≤ tt;
-    fewStops = lit≤ tt;
-    noPoints = refl;
-    onlyBlocks = ((refl, refl, refl), ((refl, refl, refl), tt));
-  };
-  played = refl;
-}
+unfolding accepted accepts next opening playing handled buffered onStart onStop onLoop badTime clamped clampedStart clampedEnd fresh validRate validShape duration rendered refusal badBlockTime badRate badSamples plan isAligned startAt alignedPlan subSamplePlan settings firstHead headAt hasEnded turnsOver firstFrame endsWithin played nextFrame lastWrap alignedPosition dt blockSeconds blockEnd idle roundAway ofBits ofInt round sum add mul div rem lt le eq ne neg sub toUnsigned fits
+plain = met plainCalls 2 tt refl refl tt (lit≤ tt) (lit≤ tt) refl ((refl, refl, refl), ((refl, refl, refl), tt)) refl
 
 stopped : Met stoppedCalls 3
-unfolding accepted accepts next opening playing handled buffered onStart onStop onLoop badTime clamped clampedStart clampedEnd fresh validRate validShape duration rendered refusal badBlockTime badRate badSamples plan isAligned startAt alignedPlan subSamplePlan settings firstHead headAt hasEnded turnsOver firstFrame endsWithin played nextFrame lastWrap alignedPosition dt blockSeconds blockEnd idle roundAway ofBits ofInt round sum add mul div rem lt le eq ne fits neg sub toUnsigned
-stopped = record {
-  single = tt;
-  valid = tt;
-  typed = tt;
-  premises = record {
-    clip = record { channels = 1; frames = 3; rate = rate; samples = frames };
-    start = record { when = none; offset = none; duration = never };
-    oneClip = refl;
-    ownRate = refl;
-    oneStart = refl;
-    inTime = tt;
-    noOffset = tt;
-    noDuration = refl;
-    fewSwitches = lit≤ tt;
-    fewStops = lit≤ tt;
-    noPoints = refl;
-    onlyBlocks = ((refl, refl, refl), ((refl, refl, refl), ((refl, refl, refl), tt)));
-  };
-  played = refl;
-}
+unfolding accepted accepts next opening playing handled buffered onStart onStop onLoop badTime clamped clampedStart clampedEnd fresh validRate validShape duration rendered refusal badBlockTime badRate badSamples plan isAligned startAt alignedPlan subSamplePlan settings firstHead headAt hasEnded turnsOver firstFrame endsWithin played nextFrame lastWrap alignedPosition dt blockSeconds blockEnd idle roundAway ofBits ofInt round sum add mul div rem lt le eq ne neg sub toUnsigned fits
+stopped = met stoppedCalls 3 tt refl refl tt (lit≤ tt) (lit≤ tt) refl ((refl, refl, refl), ((refl, refl, refl), ((refl, refl, refl), tt))) refl
 
 returns : tie.Need-returns
 returns c = (looped, plain, stopped)
