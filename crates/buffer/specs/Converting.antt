@@ -4,9 +4,9 @@ use mathlib.Core.Bool.{Bool, not, _||_, cond}
 use mathlib.Core.List.{List}
 use lib.Dec.{eqb, ltb}
 use lib.IntN.{pos}
-use lib.Ieee.{Float, binary32, binary64, ofInt, ofBits, toBits, toUnsigned, add, sub, mul, div}
+use lib.Ieee.{Float, binary32, binary64, ofInt, ofBits, toBits, add, sub, mul, div}
 use lib.ListN.{length, getD}
-use Rattle.rounding.specs.Rounding.{floor, ceil, convert}
+use Rattle.rounding.specs.Rounding.{floor, ceil, truncate, convert}
 use Rattle.rounding.specs.Near.{floatEq, rateTolerance}
 use Rattle.lists.specs.Rows.{rows}
 use Rattle.lists.specs.Table.{table}
@@ -27,7 +27,7 @@ relabels shape rate = floatEq (shape .rate) rate rateTolerance || eqb (shape .fr
 
 -- 'ceil(N × ratio) = M frames', the ratio being the target's rate over the source's
 unfoldable pub convertedLength : Shape → Float → ℕ
-convertedLength shape rate = toUnsigned 64 (ceil binary64 (mul binary64 (asF64 (shape .frames)) (div binary64 rate (shape .rate))))
+convertedLength shape rate = truncate (ceil binary64 (mul binary64 (asF64 (shape .frames)) (div binary64 rate (shape .rate))))
 
 -- rows 1 and 2 for a buffer of `len` samples and a new rate; then a relabelled shape, or rows 7 and 6 and the result's shape
 unfoldable pub convertedShape : Shape → ℕ → Float → Made
@@ -46,7 +46,7 @@ playhead n m i = mul binary64 (div binary64 (asF64 i) (asF64 (m - 1))) (asF64 (n
 
 -- the frame at or before the playhead
 unfoldable pub previous : Float → ℕ
-previous position = toUnsigned 64 (floor binary64 position)
+previous position = truncate (floor binary64 position)
 
 -- 'its fraction k is narrowed to f32'
 unfoldable pub fraction : Float → Float

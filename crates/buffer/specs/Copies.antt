@@ -7,6 +7,7 @@ use lib.ListN.{take, drop}
 use Rattle.lists.specs.Parts.{put}
 use Rattle.buffer.specs.Refusals.{SHAPE, CHANNEL}
 use Rattle.buffer.specs.Limits.{validShape}
+use Rattle.buffer.specs.Answers.{Answer, accepted, refusal}
 use Rattle.buffer.specs.declared.Copied.{Copied}
 use Rattle.buffer.specs.declared.Copied.the-variants.{Frames, Refused}
 -- a channel's frames, which a copy moves
@@ -24,11 +25,11 @@ copied channels frames len number offset nf =
     (Frames (count frames offset nf)))
 
 -- the destination of copyFromChannel() by the answer: n frames from the offset on, and 'the remaining elements of destination are not modified'
-abbrev pub copiedOut : Copied → List ℕ → ℕ → List ℕ → List ℕ
-copiedOut (Frames n) frames offset destination = take n (drop offset frames) ++ drop n destination
-copiedOut (Refused number) frames offset destination = destination
+abbrev pub copiedOut : Answer ℕ → List ℕ → ℕ → List ℕ → List ℕ
+copiedOut (accepted n) frames offset destination = take n (drop offset frames) ++ drop n destination
+copiedOut (refusal number) frames offset destination = destination
 
 -- the samples after copyToChannel() by the answer: the source's first n elements stand from `at` on, and 'the remaining elements of buffer are not modified'
-abbrev pub copiedIn : Copied → List ℕ → ℕ → List ℕ → List ℕ
-copiedIn (Frames n) source at samples = put at n (take n source) samples
-copiedIn (Refused number) source at samples = samples
+abbrev pub copiedIn : Answer ℕ → List ℕ → ℕ → List ℕ → List ℕ
+copiedIn (accepted n) source at samples = put at n (take n source) samples
+copiedIn (refusal number) source at samples = samples

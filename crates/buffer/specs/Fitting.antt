@@ -1,7 +1,6 @@
--- The answer of a call that makes one buffer, and what its lent output then holds.
+-- The last check of a call that makes one buffer.
 use Prim.Native.Nat.{ℕ, _*_, _≤_}
 use mathlib.Core.Bool.{not, cond}
-use mathlib.Core.List.{List}
 use lib.Dec.{eqb}
 use Rattle.buffer.specs.Refusals.{LENGTH}
 use Rattle.buffer.specs.Limits.{maxChannels, maxFrames}
@@ -12,11 +11,6 @@ use Rattle.buffer.specs.declared.Made.the-variants.{Buffer, Refused}
 unfoldable pub fitted : Made → ℕ → Made
 fitted (Refused number) len = Refused number
 fitted (Buffer shape) len = cond (not (eqb len (shape .channels * shape .frames))) (Refused LENGTH) (Buffer shape)
-
--- the output holds the result's samples, and is unchanged where the call is refused
-abbrev pub stored : Made → List ℕ → List ℕ → List ℕ
-stored (Buffer shape) samples out = samples
-stored (Refused number) samples out = out
 
 -- a result is within the limits
 abbrev pub Bounded : Made → Type 0

@@ -35,11 +35,6 @@ abbrev pub BothBounded : Parted → Type 0
 BothBounded (Buffers first rest) = ((first .channels ≤ maxChannels) × (first .frames ≤ maxFrames)) × ((rest .channels ≤ maxChannels) × (rest .frames ≤ maxFrames))
 BothBounded (Refused number) = Unit
 
--- an output holds its part's samples, and is unchanged where the call is refused
-abbrev pub storedPart : Parted → List ℕ → List ℕ → List ℕ
-storedPart (Buffers first rest) samples out = samples
-storedPart (Refused number) samples out = out
-
 -- in each channel the first s frames
 abbrev pub firstPart : Shape → List ℕ → ℕ → List ℕ
 firstPart shape samples s = rows (shape .channels) (λ c. take s (channel samples (shape .frames) c))

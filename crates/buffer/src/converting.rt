@@ -4,7 +4,8 @@ ghost use mathlib.Core.Path.{_≡_};
 ghost use Prim.Native.Nat.{_+_, _*_, _≤_, min};
 ghost use lib.ListN.{length, getD};
 ghost use Rattle.lists.specs.Table.{table};
-ghost use Rattle.buffer.specs.Fitting.{fitted, stored};
+ghost use Rattle.buffer.specs.Answers.{madeAnswer, stored};
+ghost use Rattle.buffer.specs.Fitting.{fitted};
 ghost use Rattle.buffer.specs.Converting.{relabels, convertedLength, convertedShape, playhead, mixed, resampled, resampledChannels, convertedSamples};
 use super::Made;
 use super::Shape;
@@ -138,7 +139,7 @@ fn resample_channels(out: &mut [u32], samples: &[u32], n: usize, m: usize, count
 // Converts the buffer of `samples` to another rate, into `out`.
 pub fn convert(shape: Shape, samples: &[u32], rate: f32, out: &mut [u32]) -> Made
     ensures { λ r. ⌜ (r ≡ fitted (convertedShape shape (length (now (samples .entry))) rate) (length (now (out .entry))))
-        × (now (out .exit) ≡ stored r (convertedSamples shape (now (samples .entry)) rate) (now (out .entry))) ⌝ }
+        × (now (out .exit) ≡ stored (madeAnswer r) (convertedSamples shape (now (samples .entry)) rate) (now (out .entry))) ⌝ }
 {
     let made = converted_shape(shape, samples.len(), rate);
     let answer = fitted(made, out.len());

@@ -2,6 +2,7 @@
 ghost use mathlib.Core.Path.{_≡_};
 ghost use Prim.Native.Nat.{_+_, _*_, min};
 ghost use lib.ListN.{length};
+ghost use Rattle.buffer.specs.Answers.{copyAnswer};
 ghost use Rattle.buffer.specs.Channels.{channel};
 ghost use Rattle.buffer.specs.Copies.{copied, copiedOut, copiedIn};
 use super::Copied;
@@ -45,7 +46,7 @@ pub fn copy_from_channel_with_offset(
     offset: usize,
 ) -> Copied
     ensures { λ r. ⌜ (r ≡ copied channels frames (length (now (samples .entry))) number offset (length (now (destination .entry))))
-        × (now (destination .exit) ≡ copiedOut r (channel (now (samples .entry)) frames number) offset (now (destination .entry))) ⌝ }
+        × (now (destination .exit) ≡ copiedOut (copyAnswer r) (channel (now (samples .entry)) frames number) offset (now (destination .entry))) ⌝ }
 {
     let answer = checked(
         channels,
@@ -73,7 +74,7 @@ pub fn copy_from_channel(
     number: usize,
 ) -> Copied
     ensures { λ r. ⌜ (r ≡ copied channels frames (length (now (samples .entry))) number 0 (length (now (destination .entry))))
-        × (now (destination .exit) ≡ copiedOut r (channel (now (samples .entry)) frames number) 0 (now (destination .entry))) ⌝ }
+        × (now (destination .exit) ≡ copiedOut (copyAnswer r) (channel (now (samples .entry)) frames number) 0 (now (destination .entry))) ⌝ }
 {
     copy_from_channel_with_offset(channels, frames, samples, destination, number, 0)
 }
@@ -88,7 +89,7 @@ pub fn copy_to_channel_with_offset(
     offset: usize,
 ) -> Copied
     ensures { λ r. ⌜ (r ≡ copied channels frames (length (now (samples .entry))) number offset (length (now (source .entry))))
-        × (now (samples .exit) ≡ copiedIn r (now (source .entry)) (frames * number + offset) (now (samples .entry))) ⌝ }
+        × (now (samples .exit) ≡ copiedIn (copyAnswer r) (now (source .entry)) (frames * number + offset) (now (samples .entry))) ⌝ }
 {
     let answer = checked(
         channels,
@@ -114,7 +115,7 @@ pub fn copy_to_channel(
     number: usize,
 ) -> Copied
     ensures { λ r. ⌜ (r ≡ copied channels frames (length (now (samples .entry))) number 0 (length (now (source .entry))))
-        × (now (samples .exit) ≡ copiedIn r (now (source .entry)) (frames * number) (now (samples .entry))) ⌝ }
+        × (now (samples .exit) ≡ copiedIn (copyAnswer r) (now (source .entry)) (frames * number) (now (samples .entry))) ⌝ }
 {
     copy_to_channel_with_offset(channels, frames, samples, source, number, 0)
 }

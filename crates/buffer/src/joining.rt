@@ -5,7 +5,8 @@ ghost use Prim.Native.Nat.{_+_, _*_, _≤_};
 ghost use lib.ListN.{length};
 ghost use Rattle.lists.specs.Rows.{rows};
 ghost use Rattle.buffer.specs.Channels.{channel};
-ghost use Rattle.buffer.specs.Fitting.{fitted, stored};
+ghost use Rattle.buffer.specs.Answers.{madeAnswer, stored};
+ghost use Rattle.buffer.specs.Fitting.{fitted};
 ghost use Rattle.buffer.specs.Joining.{extendedShape, joined};
 use super::Made;
 use super::Shape;
@@ -74,7 +75,7 @@ fn join_channels(out: &mut [u32], samples: &[u32], m: usize, other: &[u32], n: u
 // Extends the buffer `a` of `samples` by the buffer `b` of `other`, into `out`.
 pub fn extend(a: Shape, samples: &[u32], b: Shape, other: &[u32], out: &mut [u32]) -> Made
     ensures { λ r. ⌜ (r ≡ fitted (extendedShape a (length (now (samples .entry))) b (length (now (other .entry)))) (length (now (out .entry))))
-        × (now (out .exit) ≡ stored r (joined a (now (samples .entry)) b (now (other .entry))) (now (out .entry))) ⌝ }
+        × (now (out .exit) ≡ stored (madeAnswer r) (joined a (now (samples .entry)) b (now (other .entry))) (now (out .entry))) ⌝ }
 {
     let made = extended_shape(a, samples.len(), b, other.len());
     let answer = fitted(made, out.len());

@@ -3,8 +3,9 @@ ghost use mathlib.Core.Path.{_≡_};
 ghost use Prim.Native.Nat.{_+_, _*_, _≤_};
 ghost use lib.ListN.{length, take, drop};
 ghost use Rattle.lists.specs.Rows.{rows};
+ghost use Rattle.buffer.specs.Answers.{partedAnswer, stored};
 ghost use Rattle.buffer.specs.Channels.{channel};
-ghost use Rattle.buffer.specs.Parting.{splitShapes, bothFitted, storedPart, firstPart, restPart, BothBounded};
+ghost use Rattle.buffer.specs.Parting.{splitShapes, bothFitted, firstPart, restPart, BothBounded};
 use super::Parted;
 use super::Shape;
 use super::frames::copy_frames;
@@ -86,8 +87,8 @@ pub fn split(
     rest: &mut [u32],
 ) -> Parted
     ensures { λ r. ⌜ (r ≡ bothFitted (splitShapes shape (length (now (samples .entry))) point) (length (now (first .entry))) (length (now (rest .entry))))
-        × (now (first .exit) ≡ storedPart r (firstPart shape (now (samples .entry)) point) (now (first .entry)))
-        × (now (rest .exit) ≡ storedPart r (restPart shape (now (samples .entry)) point) (now (rest .entry))) ⌝ }
+        × (now (first .exit) ≡ stored (partedAnswer r) (firstPart shape (now (samples .entry)) point) (now (first .entry)))
+        × (now (rest .exit) ≡ stored (partedAnswer r) (restPart shape (now (samples .entry)) point) (now (rest .entry))) ⌝ }
 {
     let parted = split_shapes(shape, samples.len(), point);
     let answer = both_fitted(parted, first.len(), rest.len());

@@ -69,12 +69,19 @@ fn print_parted(answer: Parted, first: &[u32], rest: &[u32]) {
     print_words(rest);
 }
 
-// 16,777,216 frames are accepted, one more is not.
+// 16,777,216 frames are accepted, one more is not; 24,000 frames at 48,000 last half a second.
 fn run_limits() {
     let most = buffer::is_valid_shape(1, 16_777_216, 16_777_216);
     let over = buffer::is_valid_shape(1, 16_777_217, 16_777_217);
     io::print_decimal(STDOUT_FILENO, most as u64);
     io::print_decimal(STDOUT_FILENO, over as u64);
+    end_line();
+    let half = buffer::duration(Shape {
+        channels: 1,
+        frames: 24000,
+        rate: 48000.0,
+    });
+    io::print_hex(STDOUT_FILENO, rounding::to_pattern_f64(half), 16);
     end_line();
 }
 

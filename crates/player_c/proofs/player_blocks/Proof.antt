@@ -1,0 +1,68 @@
+-- `player_c::player_blocks` ends: one block less is left in each turn, and the output keeps its length. Assumes nothing.
+use mathlib.Core.Path.{_≡_}
+use Prim.Native.Nat.{_≤_}
+use lib.ListN.{length}
+use borrow.Author.Needs.{needs}
+use Rattle.player_c.proofs.player_blocks.Statement.{statement}
+use Rattle.player_c.proofs.player_blocks.Tie as tie
+
+abbrev Inv-loop : tie.InvT-loop
+Inv-loop out₀ samples channels frames looped rate blocks p₀ left₀ out p left = (left ≤ blocks) × (length out ≡ length out₀)
+
+abbrev μ-loop : tie.MeasureT-loop
+μ-loop out₀ samples channels frames looped rate blocks p₀ left₀ out p left = left
+
+begun-requires : tie.Need-begun-requires Inv-loop μ-loop
+begun-requires c κs = search needs
+
+enum-known-player : tie.Need-enum-known-player Inv-loop μ-loop
+enum-known-player c = search needs
+
+enum-told : tie.Need-enum-told Inv-loop μ-loop
+enum-told c = search needs
+
+returns : tie.Need-returns Inv-loop μ-loop
+returns c = search needs
+
+loop-holds : tie.Need-loop-holds Inv-loop μ-loop
+loop-holds c = search needs
+
+sub-played : tie.Need-sub-played Inv-loop μ-loop
+sub-played c = search needs
+
+played-requires : tie.Need-played-requires Inv-loop μ-loop
+played-requires c κs = search needs
+
+sub-left : tie.Need-sub-left Inv-loop μ-loop
+sub-left c = search needs
+
+loop-less : tie.Need-loop-less Inv-loop μ-loop
+loop-less c = search needs
+
+loop-again : tie.Need-loop-again Inv-loop μ-loop
+loop-again c = search needs
+
+same-length : tie.Need-same-length Inv-loop μ-loop
+same-length c = search needs
+
+returns-2 : tie.Need-returns-2 Inv-loop μ-loop
+returns-2 c = search needs
+
+pub player-blocks-spec : {M : Type 1} → statement M
+player-blocks-spec =
+    tie.close
+    (tie.spec
+    Inv-loop
+    μ-loop
+    begun-requires
+    enum-known-player
+    enum-told
+    returns
+    loop-holds
+    sub-played
+    played-requires
+    sub-left
+    loop-less
+    loop-again
+    same-length
+    returns-2)
