@@ -10,10 +10,12 @@ use Rattle.player.specs.Block.{rendered, output}
 use Rattle.player.specs.declared.Player.{Player}
 use Rattle.player.specs.declared.ControlMessage.{ControlMessage}
 use Rattle.player.specs.declared.ControlMessage.the-variants.{Start, Stop, Loop, LoopStart, LoopEnd}
+use Rattle.buffer.specs.Answers as answers
+use Rattle.buffer.specs.Answers.{Answer}
+use Rattle.player.specs.Answers.{handledAnswer, blockAnswer}
+use Rattle.player.specs.declared.BlockReport.{BlockReport}
 use Rattle.player.specs.declared.Handled.{Handled}
-use Rattle.player.specs.declared.Handled.the-variants as handledBy
 use Rattle.player.specs.declared.Rendered.{Rendered}
-use Rattle.player.specs.declared.Rendered.the-variants as renderedAs
 
 -- A call with all that is handed in: `buffer` has channels, frames, rate and samples; `block` has the output, the samples, time, rate and factor.
 pub data Call : Type 0 where
@@ -39,25 +41,36 @@ allTyped [] = true
 allTyped (c ∷ cs) = typed c && allTyped cs
 
 -- ---- what a call does to the player: accepted means that no row of the table refuses it, and a refused call leaves the player
+abbrev pub isAccepted : {A : Type 0} → Answer A → Bool
+isAccepted (answers.accepted value) = true
+isAccepted (answers.refusal number) = false
+
+abbrev pub valueOr : Answer Player → Player → Player
+valueOr (answers.accepted q) p = q
+valueOr (answers.refusal number) p = p
+
+abbrev pub playerOr : Answer BlockReport → Player → Player
+playerOr (answers.accepted report) p = report .player
+playerOr (answers.refusal number) p = p
+
+abbrev pub channelsOr : Answer BlockReport → ℕ
+channelsOr (answers.accepted report) = report .channels
+channelsOr (answers.refusal number) = 0
+
 abbrev pub isDone : Handled → Bool
-isDone (handledBy.Done q) = true
-isDone (handledBy.Refused number) = false
+isDone h = isAccepted (handledAnswer h)
 
 abbrev pub left : Handled → Player → Player
-left (handledBy.Done q) p = q
-left (handledBy.Refused number) p = p
+left h p = valueOr (handledAnswer h) p
 
 abbrev pub isBlock : Rendered → Bool
-isBlock (renderedAs.Block report) = true
-isBlock (renderedAs.Refused number) = false
+isBlock r = isAccepted (blockAnswer r)
 
 abbrev pub moved : Rendered → Player → Player
-moved (renderedAs.Block report) p = report .player
-moved (renderedAs.Refused number) p = p
+moved r p = playerOr (blockAnswer r) p
 
 abbrev pub answered : Rendered → ℕ
-answered (renderedAs.Block report) = report .channels
-answered (renderedAs.Refused number) = 0
+answered r = channelsOr (blockAnswer r)
 
 unfoldable pub accepts : Player → Call → Bool
 accepts p (buffer channels frames rate samples) = isDone (buffered p channels frames rate (length samples))

@@ -8,3 +8,4 @@ pub mod SubSample
 pub mod Infos
 pub mod Reports
 pub mod Block
+pub mod Answers
