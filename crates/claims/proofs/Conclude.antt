@@ -13,7 +13,8 @@ use lib.Ieee.{Float, binary64, lt, le, eq, mul}
 use lib.Ieee.Bits.{is-true}
 use lib.Ieee.Exact.{HasValue}
 use Rattle.player.specs.Seconds.{never, one, blockEnd, instant}
-use Rattle.player.specs.Block.{Plan, plan, channel}
+use Rattle.buffer.specs.Channels.{channel}
+use Rattle.player.specs.Block.{Plan, plan}
 use Rattle.player.specs.declared.Player.{Player}
 use Rattle.claims.specs.Calls.{Call, block, next, Event, after, timeOf, channelsBy, outputBy, channelsOf, sampleOf, isEnded, Clip}
 use Rattle.claims.specs.LongRun.{OnlyBlocks, isBefore, isAt, reaches, frameBits, Plays, exactFrames, Reports, blocksOf, Stands, Over, endOf, NoneAt, Block}

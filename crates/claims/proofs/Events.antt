@@ -12,7 +12,8 @@ use lib.Ieee.{Float, binary32, binary64, fits, lt, le}
 use lib.Ieee.Fits.{and-l}
 use lib.Ieee.Scale.{finite}
 use Rattle.player.specs.Seconds.{none, one}
-use Rattle.player.specs.Block.{Plan, plan, latest, badBlockTime, badRate, badSamples, refusal, rendered, output, written, channel, reportOf}
+use Rattle.buffer.specs.Channels.{channel}
+use Rattle.player.specs.Block.{Plan, plan, latest, badBlockTime, badRate, badSamples, refusal, rendered, output, written, reportOf}
 use Rattle.player.specs.declared.Player.{Player}
 use Rattle.player.specs.declared.Rendered.{Rendered}
 use Rattle.player.specs.declared.Rendered.the-variants.{Block, Refused}

@@ -12,7 +12,8 @@ use lib.ListN.{length, getD}
 use lib.Ieee.{Float, binary64, lt, le, eq, mul}
 use lib.Ieee.Exact.{HasValue}
 use Rattle.player.specs.Seconds.{never, one, blockEnd, instant}
-use Rattle.player.specs.Block.{Plan, plan, silent, alignedPlan, subSamplePlan, channel}
+use Rattle.buffer.specs.Channels.{channel}
+use Rattle.player.specs.Block.{Plan, plan, silent, alignedPlan, subSamplePlan}
 use Rattle.player.specs.declared.Player.{Player}
 use Rattle.claims.specs.Calls.{Call, block, accepts, next, typed, Event, after, timeOf, channelsBy, outputBy, channelsOf, sampleOf, isEnded, Clip}
 use Rattle.claims.specs.LongRun.{PlainBlock, OnlyBlocks, isBefore, isAt, reaches, frameBits, Plays, exactFrames, Reports, blocksOf, Stands, Over, endOf, NoneAt, Block}

@@ -17,7 +17,8 @@ use Rattle.player.specs.Record.{shapeOf, loopOf, renderOf, moved}
 use Rattle.player.specs.Aligned.{firstFrame, endsWithin, alignedSample, lastWrap, alignedPosition}
 use Rattle.player.specs.SubSample.{headAt, isIdle, infoOfSample, sampleOf}
 use Rattle.player.specs.declared.Playhead.{Playhead}
-use Rattle.player.specs.Block.{Plan, silent, idle, startAt, isAligned, hasEnded, turnsOver, alignedPlan, settings, firstHead, subSamplePlan, plan, channel}
+use Rattle.buffer.specs.Channels.{channel}
+use Rattle.player.specs.Block.{Plan, silent, idle, startAt, isAligned, hasEnded, turnsOver, alignedPlan, settings, firstHead, subSamplePlan, plan}
 use Rattle.player.specs.declared.Player.{Player}
 use Rattle.claims.specs.LongRun.{exactFrames, frameBits}
 use Rattle.claims.proofs.Order as order

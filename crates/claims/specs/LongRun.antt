@@ -11,7 +11,7 @@ use lib.Ieee.Exact.{HasValue}
 use Rattle.player.specs.Seconds.{none, never, one, instant, blockEnd}
 use Rattle.buffer.specs.Limits.{validRate}
 use Rattle.player.specs.Record.{fresh}
-use Rattle.player.specs.Block.{channel}
+use Rattle.buffer.specs.Channels.{channel}
 use Rattle.player.specs.declared.Player.{Player}
 use Rattle.claims.specs.Calls.{Call, buffer, message, block, allTyped, Event, accepted, after, afterAll, timeOf, channelsOf, sampleOf, isEnded, opening, playing, Clip, Started, clipIn, startIn, stopIn, switchIn, pointIn, gathered}
 

@@ -1,5 +1,5 @@
 -- What a test that was taken, or left, decides. Assumes nothing.
-use mathlib.Core.Path.{_≡_, refl}
+use mathlib.Core.Path.{_≡_}
 use mathlib.Core.Bool.{Bool, true, false, _&&_, _||_, cond}
 
 module _ {A : Type 0} where
@@ -9,9 +9,6 @@ module _ {A : Type 0} where
   pub left : (t : Bool) (a b : A) {x : A} → t ≡ false → x ≡ b → x ≡ cond t a b
   left t a b h e = rw h e
 
-pub or-taken : (a b : Bool) → a ≡ true → true ≡ (a || b)
-or-taken a b h = rw h refl
-
 pub or-left : (a b : Bool) {x : Bool} → a ≡ false → x ≡ b → x ≡ (a || b)
 or-left a b h e = rw h e
 
@@ -20,6 +17,3 @@ neither a b d h k e = rw (h, k) e
 
 pub and-taken : (a b : Bool) {x : Bool} → a ≡ true → x ≡ b → x ≡ (a && b)
 and-taken a b h e = rw h e
-
-pub and-left : (a b : Bool) → a ≡ false → false ≡ (a && b)
-and-left a b h = rw h refl

@@ -1,7 +1,7 @@
 -- The laws that the proofs of `player` share.
 mod Cases
-mod Tables
+pub mod Tables
 mod Turning
-mod Written
+pub mod Written
 mod Sampled
 mod Plans

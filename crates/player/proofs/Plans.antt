@@ -1,21 +1,18 @@
 -- The cases of a block, each by the tests that lead to it, and what an accepted block may rely on. Assumes nothing.
-use mathlib.Core.Path.{_≡_, refl, ap, sym, _∙_}
-use mathlib.Core.Bool.{Bool, true, false, not, _&&_, cond}
+use mathlib.Core.Path.{_≡_, ap, _∙_}
+use mathlib.Core.Bool.{Bool, true, false, not, _&&_}
 use mathlib.Core.List.{List}
-use Prim.Native.Nat.{ℕ, _*_}
-use borrow.Author.Tests.{eqb-true, not-true, not-false}
-use native.Mathlib.Omega.{arith}
-use lib.Dec.{eqb}
-use lib.ListN.{length}
+use Prim.Native.Nat.{ℕ}
+use borrow.Author.Tests.{not-false}
 use lib.Ieee.{Float, le, ne}
 use Rattle.lists.specs.Table.{table}
 use Rattle.lists.specs.Parts.{put}
-use Rattle.buffer.specs.Limits.{validShape, Valid, valid}
+use Rattle.buffer.specs.Limits.{Valid, valid}
 use Rattle.player.specs.declared.Player.{Player}
 use Rattle.player.specs.declared.BlockReport.{BlockReport}
 use Rattle.player.specs.Seconds.{never, blockEnd}
 use Rattle.player.specs.Reports.{reportFrom}
-use Rattle.player.specs.Block.{Plan, silent, idle, computedRate, isAligned, alignedPlan, subSamplePlan, plan, badBlockTime, badRate, badSamples, refusal, reportOf, written}
+use Rattle.player.specs.Block.{Plan, silent, idle, computedRate, isAligned, alignedPlan, subSamplePlan, plan, badSamples, reportOf, written}
 
 -- what a block answers, and what its output then holds, by its plan
 abbrev pub Told : Plan → ℕ → List ℕ → List ℕ → BlockReport → List ℕ → Type 0

@@ -1,10 +1,9 @@
 -- A sub-sample block's output by its three arrays is the output by its infos. Assumes nothing.
-use mathlib.Core.Path.{_≡_, ap}
-use mathlib.Core.Bool.{Bool, false}
+use mathlib.Core.Path.{_≡_}
+use mathlib.Core.Bool.{false}
 use mathlib.Core.List.{List}
 use Prim.Native.Nat.{ℕ, _<_}
-use lib.ListN.{getD}
-use lib.Ieee.{Float, nan}
+use lib.Ieee.{nan}
 use Rattle.lists.specs.Table.{table, getD-table}
 use Rattle.player.proofs.Tables.{written-same}
 use Rattle.player.specs.declared.Settings.{Settings}

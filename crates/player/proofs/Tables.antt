@@ -1,12 +1,12 @@
 -- Tables by two functions that agree below the length, and the output written by them. Assumes nothing.
 use mathlib.Core.Path.{_≡_, refl, ap}
 use mathlib.Core.List.{List, _∷_}
-use Prim.Native.Nat.{ℕ, zero, suc, _*_, _<_}
+use Prim.Native.Nat.{ℕ, zero, suc, _<_}
 use native.Mathlib.Nat.{zero-lt-suc}
 use native.Mathlib.Omega.{arith}
 use Rattle.lists.specs.Table.{table}
-use Rattle.lists.specs.Parts.{put}
-use Rattle.player.specs.Block.{channel, written}
+use Rattle.buffer.specs.Channels.{channel}
+use Rattle.player.specs.Block.{written}
 
 pub table-same : (n : ℕ) (f g : ℕ → ℕ) → ((i : ℕ) → i < n → f i ≡ g i) → table n f ≡ table n g
 unfolding table

@@ -3,7 +3,7 @@
 use mathlib.Core.Bool.{Bool, _&&_, cond}
 use mathlib.Core.List.{List}
 use Prim.Native.Nat.{ℕ, zero, suc, _-_}
-use lib.Dec.{leb, ltb}
+use lib.Dec.{leb}
 use lib.ListN.{getD}
 use lib.Ieee.{Float, binary64, add, mul, div, rem, lt, toUnsigned}
 use Rattle.rounding.specs.Rounding.{roundAway}

@@ -1,15 +1,16 @@
 -- The block call (document 01, 'Output block', 'Aligned block', 'Sub-sample block', and the table's rows for a block). Definitions only.
 -- What a block does to the player doesn't depend on the frames: `plan` gives it, with how a channel's frames become its samples.
 use mathlib.Core.Bool.{Bool, true, false, not, _&&_, _||_, cond}
-use mathlib.Core.List.{List, [], _∷_}
+use mathlib.Core.List.{List}
 use Prim.Native.Nat.{ℕ, zero, suc, _*_}
 use lib.Dec.{eqb}
 use lib.IntN.{pos, negsuc}
-use lib.ListN.{length, take, drop}
+use lib.ListN.{length}
 use lib.Ieee.{Float, fin, binary64, add, mul, div, lt, le, eq, ne}
 use lib.Ieee.Scale.{finite}
 use Rattle.lists.specs.Table.{table}
 use Rattle.lists.specs.Parts.{put}
+use Rattle.buffer.specs.Channels.{channel}
 use Rattle.buffer.specs.Limits.{validShape, duration}
 use Rattle.buffer.specs.Refusals.{SHAPE, LENGTH, TIME, SPEED}
 use Rattle.player.specs.Seconds.{context, inClip, never, none, one, dt, blockSeconds, blockEnd}
@@ -185,10 +186,6 @@ unfoldable pub rendered : ℕ → Player → ℕ → ℕ → Float → Float →
 rendered n p outLength samplesLength time rate factor =
     let no = refusal n p outLength samplesLength time rate factor in
     cond (eqb no 0) (Block (reportOf (plan n p time rate factor))) (Refused no)
-
--- the frames of channel c
-abbrev pub channel : List ℕ → ℕ → ℕ → List ℕ
-channel samples frames c = take frames (drop (frames * c) samples)
 
 -- the output once its first `count` channels are written, each in its own part; the others are not touched
 unfoldable pub written : ℕ → (List ℕ → ℕ → ℕ) → ℕ → List ℕ → List ℕ → ℕ → List ℕ

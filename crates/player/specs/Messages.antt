@@ -1,7 +1,7 @@
 -- The control messages and the buffer call (document 01, 'Messages', and the table's rows 'message values' to 'buffer'). Definitions only.
 -- The checks stand in the order of the refusals.
-use mathlib.Core.Bool.{Bool, true, false, not, _||_, cond}
-use Prim.Native.Nat.{ℕ, _*_}
+use mathlib.Core.Bool.{Bool, true, not, _||_, cond}
+use Prim.Native.Nat.{ℕ}
 use lib.Dec.{eqb}
 use lib.Ieee.{Float, lt, le}
 use lib.Ieee.Scale.{finite}

@@ -8,7 +8,6 @@ use lib.Ieee.{Float, binary64, ofBits, add, sub, mul, lt, le, eq, toUnsigned}
 use Rattle.rounding.specs.Rounding.{magnitude, floor, fma, widen, narrow, remEuclid}
 use Rattle.player.specs.Near.{isNear, isNearZero}
 use Rattle.player.specs.Seconds.{context, inClip, none, one, whole}
-use Rattle.player.specs.declared.FrameNumber.{FrameNumber}
 use Rattle.player.specs.declared.Settings.{Settings}
 use Rattle.player.specs.declared.Playhead.{Playhead}
 use Rattle.player.specs.declared.PlaybackInfo.{PlaybackInfo}

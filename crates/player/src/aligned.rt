@@ -16,6 +16,7 @@ use super::seconds::widened;
 use rounding::round_away;
 use rounding::truncate;
 
+// The frame at a position, rounded.
 pub fn first_frame(position: f64, rate: f32) -> usize
     ensures { λ r. ⌜ r ≡ firstFrame position rate ⌝ }
 {
@@ -61,6 +62,7 @@ fn last_wrap_of_loop(frames: usize, first: usize) -> Wrap
     wrap
 }
 
+// The last sample at which the clip starts again, if any.
 pub fn last_wrap(turns: bool, frames: usize, first: usize) -> Wrap
     ensures { λ r. ⌜ r ≡ lastWrap turns frames first 128 ⌝ }
 {
@@ -131,6 +133,7 @@ fn write_straight(part: &mut [u32], channel: &[u32], first: usize)
     }
 }
 
+// A channel's part of the block.
 fn write_channel(part: &mut [u32], channel: &[u32], turns: bool, first: usize)
     requires { ⌜ (length (now channel) ≤ 16777216) × (length (now part) ≤ 4096) ⌝ }
     ensures { λ _. ⌜ now (part .exit) ≡ table (length (now (part .entry))) (alignedSample turns (length (now (channel .entry))) first (now (channel .entry))) ⌝ }

@@ -3,7 +3,6 @@ ghost use mathlib.Core.Path.{_≡_};
 ghost use mathlib.Core.Bool.{_&&_, _||_};
 ghost use lib.Ieee.{binary64, add, lt, le, eq, ne};
 ghost use Rattle.player.specs.Seconds.{none, one, blockSeconds, blockEnd};
-ghost use Rattle.player.specs.Aligned.{firstFrame};
 ghost use Rattle.player.specs.Block.{clipSeconds, samplingRatio, startAt, isAligned, hasEnded, turnsOver, firstOf};
 use super::Player;
 use super::aligned::ends_within;
@@ -54,6 +53,7 @@ impl Player {
         false
     }
 
+    // Another rate than the clip's own.
     fn is_resampled(self, computed: f64) -> bool
         ensures { λ r. ⌜ r ≡ (ne (samplingRatio self) one || ne computed one) ⌝ }
     {
@@ -63,6 +63,7 @@ impl Player {
         computed != 1.0
     }
 
+    // Loop points other than the clip's start and end.
     fn has_moved_loop(self) -> bool
         ensures { λ r. ⌜ r ≡ (ne (self .«loop_state» .start .0) none || ne (self .«loop_state» .end .0) (clipSeconds self)) ⌝ }
     {
@@ -82,6 +83,7 @@ impl Player {
         block_end(time, self.sample_rate) > self.stop_time.0
     }
 
+    // Whether the block is aligned.
     pub fn is_aligned(self, time: f64, computed: f64) -> bool
         ensures { λ r. ⌜ r ≡ isAligned 128 self time computed ⌝ }
     {
@@ -107,7 +109,7 @@ impl Player {
         false
     }
 
-    // Below the clip's start, backwards, or at its end.
+    // At or past the clip's end forwards, or below its start backwards.
     fn runs_out(self, computed: f64, position: f64) -> bool
         ensures { λ r. ⌜ r ≡ (lt none computed && le (clipSeconds self) position || lt computed none && lt position none) ⌝ }
     {
@@ -147,6 +149,7 @@ impl Player {
         false
     }
 
+    // The frame with which an aligned block begins.
     pub fn first_of(self) -> usize
         ensures { λ r. ⌜ r ≡ firstOf self ⌝ }
     {

@@ -25,6 +25,7 @@ impl Player {
         false
     }
 
+    // The loop points that are played: the whole clip where they are not in order.
     fn actual_loop_start(self) -> f64
         ensures { λ r. ⌜ r ≡ cond (self .«loop_state» .«is_looping» && ownLoop self) (self .«loop_state» .start .0) none ⌝ }
     {
@@ -49,6 +50,7 @@ impl Player {
         0.0
     }
 
+    // What stays the same over the block's samples.
     pub fn settings(self, time: f64, rate: f32, computed: f64) -> Settings
         ensures { λ r. ⌜ r ≡ settings self time rate computed ⌝ }
     {

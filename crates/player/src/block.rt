@@ -9,7 +9,7 @@ ghost use Rattle.lists.specs.Table.{table};
 ghost use Rattle.lists.specs.Parts.{put};
 ghost use Rattle.player.specs.Record.{renderOf, moved};
 ghost use Rattle.player.specs.Reports.{reportFrom};
-ghost use Rattle.player.specs.Block.{Plan, idle, computedRate, startAt, hasEnded, alignedPlan, subSamplePlan, plan, badSamples, reportOf, rendered, written, output};
+ghost use Rattle.player.specs.Block.{idle, computedRate, hasEnded, alignedPlan, subSamplePlan, plan, badSamples, reportOf, rendered, written, output};
 use super::BlockReport;
 use super::BufferSeconds;
 use super::ContextSeconds;
@@ -50,6 +50,7 @@ impl Player {
         }
     }
 
+    // The player after a silent block.
     fn idle(self, time: f64, ended: bool) -> Player
         ensures { λ r. ⌜ r ≡ idle self time ended ⌝ }
     {
@@ -58,6 +59,7 @@ impl Player {
         self.moved(self.start_time.0, self.offset.0, render_state, time)
     }
 
+    // What a block that leaves this player answers.
     fn report(self, keep_alive: bool, channels: usize) -> BlockReport
         ensures { λ r. ⌜ r ≡ reportFrom self «keep_alive» channels ⌝ }
     {
@@ -107,6 +109,7 @@ impl Player {
         self.moved(start, self.offset.0, render_state, time)
     }
 
+    // An aligned block, whose samples are those of the player's buffer.
     fn aligned_block(
         self,
         out: &mut [u32],
@@ -149,6 +152,7 @@ impl Player {
         self.moved(head.start_time.0, head.offset.0, render_state, time)
     }
 
+    // A sub-sample block, whose samples are those of the player's buffer.
     fn sub_sample_block(
         self,
         out: &mut [u32],

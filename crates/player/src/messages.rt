@@ -1,7 +1,7 @@
 // The control messages and the buffer call.
 ghost use mathlib.Core.Path.{_≡_};
 ghost use lib.ListN.{length};
-ghost use Rattle.player.specs.Record.{fresh, told};
+ghost use Rattle.player.specs.Record.{fresh};
 ghost use Rattle.player.specs.Messages.{made, buffered, handled, badTime, clampedStart, clampedEnd, clamped, onStart, onStop, onLoop, onLoopStart, onLoopEnd};
 use super::BufferSeconds;
 use super::ContextSeconds;
@@ -22,6 +22,7 @@ fn is_bad_time(x: f64) -> bool
     !is_finite(x) || x < 0.0
 }
 
+// Loop start within the clip.
 fn clamped_start(at: f64, duration: f64) -> f64
     ensures { λ r. ⌜ r ≡ clampedStart at duration ⌝ }
 {
@@ -34,6 +35,7 @@ fn clamped_start(at: f64, duration: f64) -> f64
     at
 }
 
+// Loop end within the clip.
 fn clamped_end(at: f64, duration: f64) -> f64
     ensures { λ r. ⌜ r ≡ clampedEnd at duration ⌝ }
 {

@@ -14,6 +14,7 @@ const SLOWEST: f64 = 5.421010862427522170037264004349708557128906250e-20;
 
 const FASTEST: f64 = 18446744073709551616.0;
 
+// A rate or a factor that no block may have.
 fn is_bad_rate(rate: f32, factor: f64) -> bool
     ensures { λ r. ⌜ r ≡ badRate rate factor ⌝ }
 {
@@ -27,6 +28,7 @@ fn is_bad_rate(rate: f32, factor: f64) -> bool
 }
 
 impl Player {
+    // A time that the next block may not have.
     fn is_bad_block_time(self, time: f64) -> bool
         ensures { λ r. ⌜ r ≡ badBlockTime self time ⌝ }
     {

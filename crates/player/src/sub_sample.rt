@@ -42,6 +42,7 @@ fn snapped_start(current_time: f64, h: Playhead) -> f64
     h.start_time.0
 }
 
+// A start near the sample's instant, and an elapsed time near the duration, are taken as equal to it.
 fn snapped(s: Settings, current_time: f64, h: Playhead) -> Playhead
     ensures { λ r. ⌜ r ≡ snapped s «current_time» h ⌝ }
 {
@@ -67,18 +68,21 @@ fn is_idle(s: Settings, current_time: f64, h: Playhead) -> bool
     h.buffer_time_elapsed.0 >= s.duration.0
 }
 
+// `x.max(0.)`.
 fn at_least_zero(x: f64) -> f64
     ensures { λ r. ⌜ r ≡ atLeastZero x ⌝ }
 {
     if x > 0.0 { x } else { 0.0 }
 }
 
+// `x.min(y)`.
 fn at_most(x: f64, y: f64) -> f64
     ensures { λ r. ⌜ r ≡ atMost x y ⌝ }
 {
     if x < y { x } else { y }
 }
 
+// Forwards, an offset past the loop's end.
 fn is_past_loop_end(s: Settings, offset: f64) -> bool
     ensures { λ r. ⌜ r ≡ (s .«is_looping» && le none (s .«computed_playback_rate») && lt (s .«loop_end» .0) offset) ⌝ }
 {
@@ -91,6 +95,7 @@ fn is_past_loop_end(s: Settings, offset: f64) -> bool
     false
 }
 
+// An offset past the loop's end is its end.
 fn at_loop_end(s: Settings, offset: f64) -> f64
     ensures { λ r. ⌜ r ≡ cond (s .«is_looping» && le none (s .«computed_playback_rate») && lt (s .«loop_end» .0) offset) (s .«loop_end» .0) offset ⌝ }
 {
@@ -101,6 +106,7 @@ fn at_loop_end(s: Settings, offset: f64) -> f64
     }
 }
 
+// Backwards, an offset before the loop's start.
 fn is_before_loop_start(s: Settings, offset: f64) -> bool
     ensures { λ r. ⌜ r ≡ (s .«is_looping» && lt (s .«computed_playback_rate») none && lt offset (s .«loop_start» .0)) ⌝ }
 {
@@ -113,6 +119,7 @@ fn is_before_loop_start(s: Settings, offset: f64) -> bool
     false
 }
 
+// An offset before the loop's start is its start.
 fn at_loop_start(s: Settings, offset: f64) -> f64
     ensures { λ r. ⌜ r ≡ cond (s .«is_looping» && lt (s .«computed_playback_rate») none && lt offset (s .«loop_start» .0)) (s .«loop_start» .0) offset ⌝ }
 {
@@ -170,24 +177,28 @@ fn enters_from_after(s: Settings, offset: f64, x: f64) -> bool
     offset >= s.loop_end.0 && x < s.loop_end.0
 }
 
+// The playhead enters the loop.
 fn enters(s: Settings, offset: f64, x: f64) -> bool
     ensures { λ r. ⌜ r ≡ enters s offset x ⌝ }
 {
     enters_from_before(s, offset, x) || enters_from_after(s, offset, x)
 }
 
+// The playhead is in the loop.
 fn has_entered(s: Settings, h: Playhead, x: f64) -> bool
     ensures { λ r. ⌜ r ≡ (h .«entered_loop» || enters s (h .offset .0) x) ⌝ }
 {
     h.entered_loop || enters(s, h.offset.0, x)
 }
 
+// The position is outside the loop.
 fn is_outside_loop(s: Settings, x: f64) -> bool
     ensures { λ r. ⌜ r ≡ (le (s .«loop_end» .0) x || lt x (s .«loop_start» .0)) ⌝ }
 {
     x >= s.loop_end.0 || x < s.loop_start.0
 }
 
+// The position within the loop.
 fn wrapped(s: Settings, x: f64) -> f64
     ensures { λ r. ⌜ r ≡ wrapped s x ⌝ }
 {
@@ -226,6 +237,7 @@ fn turned(s: Settings, h: Playhead) -> Playhead
     h
 }
 
+// Near zero, the position is zero.
 fn settled(h: Playhead) -> Playhead
     ensures { λ r. ⌜ r ≡ settled h ⌝ }
 {
@@ -245,6 +257,7 @@ fn playhead_at(s: Settings, x: f64) -> f64
     x * s.sampling_ratio * s.sample_rate
 }
 
+// A position and its frame within the clip.
 fn is_within(s: Settings, x: f64, frame: usize) -> bool
     ensures { λ r. ⌜ r ≡ (le none x && lt x (s .«buffer_duration» .0) && ltb frame (s .«buffer_length»)) ⌝ }
 {
@@ -274,6 +287,7 @@ fn info_at(s: Settings, x: f64) -> PlaybackInfo
     no_info()
 }
 
+// A sample that plays nothing.
 fn no_info() -> PlaybackInfo
     ensures { λ r. ⌜ r ≡ infoOf false 0 none ⌝ }
 {
@@ -303,6 +317,7 @@ fn placed(s: Settings, current_time: f64, h: Playhead) -> Playhead
     settled(turned(s, begun(s, current_time, h)))
 }
 
+// Sample i's instant.
 fn instant_of(s: Settings, i: usize) -> f64
     ensures { λ r. ⌜ r ≡ instantOf s i ⌝ }
 {

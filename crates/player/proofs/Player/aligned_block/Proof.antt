@@ -1,7 +1,5 @@
 -- `player::Player::aligned_block` meets its contract: what the callees ensure is rewritten with. Assumes nothing.
-use mathlib.Core.Path.{_≡_}
 use Rattle.player.specs.Block.{alignedPlan}
-use native.Mathlib.Omega.{arith}
 use borrow.Author.Needs.{needs}
 use Rattle.player.proofs.Player.aligned_block.Statement.{statement}
 use Rattle.player.proofs.Player.aligned_block.Tie as tie

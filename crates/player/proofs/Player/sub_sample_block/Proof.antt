@@ -1,5 +1,5 @@
 -- `player::Player::sub_sample_block` meets its contract: what the callees ensure is rewritten with. Assumes nothing.
-use mathlib.Core.Path.{_≡_, sym, _∙_}
+use mathlib.Core.Path.{_∙_}
 use Rattle.player.specs.Block.{subSamplePlan}
 use Rattle.player.proofs.Sampled.{by-infos}
 use borrow.Author.Needs.{needs}

@@ -3,7 +3,7 @@ use mathlib.Core.Path.{_≡_, refl, ap, _∙_}
 use mathlib.Core.Bool.{true}
 use Prim.Native.Nat.{_+_, _-_, _≤_}
 use native.Mathlib.Omega.{arith}
-use Rattle.player.specs.Aligned.{played, nextFrame, lastWrap}
+use Rattle.player.specs.Aligned.{nextFrame, lastWrap}
 use Rattle.player.proofs.Turning.{played-below, next-more, wrap-more}
 use borrow.Author.Needs.{needs}
 use Rattle.player.proofs.aligned.last_wrap_of_loop.Statement.{statement}

@@ -2,10 +2,10 @@
 use mathlib.Core.Path.{_≡_, refl, ap, _∙_}
 use Prim.Native.Nat.{_+_, _-_, _≤_}
 use native.Mathlib.Omega.{arith}
-use lib.ListN.{length, getD, length-set}
+use lib.ListN.{length, length-set}
 use Rattle.lists.specs.Table.{filled, filled-none, filled-more, filled-end}
 use mathlib.Core.Bool.{true}
-use Rattle.player.specs.Aligned.{played, nextFrame, alignedSample}
+use Rattle.player.specs.Aligned.{nextFrame, alignedSample}
 use Rattle.player.proofs.Turning.{played-below, next-more, sample-turning}
 use borrow.Author.Needs.{needs}
 use Rattle.player.proofs.aligned.write_turning.Statement.{statement}

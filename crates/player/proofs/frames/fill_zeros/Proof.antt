@@ -1,8 +1,8 @@
 -- `player::frames::fill_zeros` meets its contract. The invariant: the first i elements are zero. Assumes nothing.
-use mathlib.Core.Path.{_≡_, refl, ap, _∙_}
-use Prim.Native.Nat.{_+_, _-_, _≤_}
+use mathlib.Core.Path.{_≡_, refl}
+use Prim.Native.Nat.{_-_, _≤_}
 use native.Mathlib.Omega.{arith}
-use lib.ListN.{length, getD, length-set}
+use lib.ListN.{length, length-set}
 use Rattle.lists.specs.Table.{filled, filled-none, filled-more, filled-end}
 use borrow.Author.Needs.{needs}
 use Rattle.player.proofs.frames.fill_zeros.Statement.{statement}

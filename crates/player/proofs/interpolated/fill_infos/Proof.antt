@@ -1,5 +1,5 @@
 -- `player::interpolated::fill_infos` meets its contract. The invariant: the playhead is the one before sample i, and the first i entries of each array are filled. Assumes nothing.
-use mathlib.Core.Path.{_≡_, refl, ap, sym, _∙_}
+use mathlib.Core.Path.{_≡_, refl, ap, _∙_}
 use Prim.Native.Nat.{ℕ, _+_, _-_, _≤_}
 use native.Mathlib.Omega.{arith}
 use native.Mathlib.Numerals.{add-one}

@@ -2,7 +2,7 @@
 use mathlib.Core.Path.{_≡_, sym}
 use mathlib.Core.Bool.{true, false, cond}
 use Prim.Native.Nat.{_+_, _-_, min}
-use lib.Ieee.{Float, binary64, mul, eq, le, toUnsigned}
+use lib.Ieee.{binary64, mul, eq, le, toUnsigned}
 use Rattle.rounding.specs.Rounding.{floor}
 use Rattle.player.specs.declared.Settings.{Settings}
 use Rattle.player.specs.Seconds.{none}

@@ -1,5 +1,5 @@
 -- `player::sub_sample::enters_from_before` meets its contract: at each `return`, the tests that led there and what the callees ensure are rewritten with. Assumes nothing.
-use Rattle.player.proofs.Cases.{and-taken, and-left}
+use Rattle.player.proofs.Cases.{and-taken}
 use mathlib.Core.Path.{refl}
 use Rattle.player.proofs.sub_sample.enters_from_before.Statement.{statement}
 use Rattle.player.proofs.sub_sample.enters_from_before.Tie as tie

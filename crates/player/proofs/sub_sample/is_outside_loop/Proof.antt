@@ -1,5 +1,5 @@
 -- `player::sub_sample::is_outside_loop` meets its contract: at each `return`, the tests that led there and what the callees ensure are rewritten with. Assumes nothing.
-use Rattle.player.proofs.Cases.{or-taken, or-left}
+use Rattle.player.proofs.Cases.{or-left}
 use mathlib.Core.Path.{refl}
 use Rattle.player.proofs.sub_sample.is_outside_loop.Statement.{statement}
 use Rattle.player.proofs.sub_sample.is_outside_loop.Tie as tie

@@ -1,5 +1,5 @@
 -- `player::sub_sample::step` meets its contract: the test is brought to the definitions' terms. Assumes nothing.
-use mathlib.Core.Path.{_≡_, sym, _∙_, ap}
+use mathlib.Core.Path.{_≡_, sym, _∙_}
 use mathlib.Core.Bool.{true, false}
 use Prim.Native.Nat.{ℕ}
 use Rattle.player.specs.declared.Settings.{Settings}
