@@ -9,7 +9,7 @@ ghost use Rattle.lists.specs.Table.{table};
 ghost use Rattle.lists.specs.Parts.{put};
 ghost use Rattle.player.specs.Record.{renderOf, moved};
 ghost use Rattle.player.specs.Reports.{reportFrom};
-ghost use Rattle.player.specs.Block.{idle, computedRate, hasEnded, alignedPlan, subSamplePlan, plan, badSamples, reportOf, rendered, written, output};
+ghost use Rattle.player.specs.Block.{silent, idle, computedRate, hasEnded, alignedPlan, subSamplePlan, plan, badSamples, reportOf, rendered, written, output};
 use super::BlockReport;
 use super::BufferSeconds;
 use super::ContextSeconds;
@@ -74,12 +74,12 @@ impl Player {
     }
 
     // Silence is one channel of zeros.
-    fn silent_block(self, out: &mut [u32], keep_alive: bool) -> BlockReport
+    fn silent_block(self, out: &mut [u32], time: f64, ended: bool, keep_alive: bool) -> BlockReport
         requires { ⌜ length (now out) ≡ 4096 ⌝ }
-        ensures { λ r. ⌜ (r ≡ reportFrom self «keep_alive» 1) × (now (out .exit) ≡ put 0 128 (table 128 (λ i. 0)) (now (out .entry))) ⌝ }
+        ensures { λ r. ⌜ (r ≡ reportOf (silent (idle self time ended) «keep_alive»)) × (now (out .exit) ≡ put 0 128 (table 128 (λ i. 0)) (now (out .entry))) ⌝ }
     {
         fill_zeros(&mut out[0..128]);
-        self.report(keep_alive, 1)
+        self.idle(time, ended).report(keep_alive, 1)
     }
 
     // Begun, if not before then with this block.
@@ -194,6 +194,13 @@ impl Player {
         self.start_time.0 != NEVER
     }
 
+    // Ended before, or with this block since it has no buffer to start.
+    fn is_over(self) -> bool
+        ensures { λ r. ⌜ r ≡ (self .«render_state» .ended || not (self .«has_buffer») && ne (self .«start_time» .0) never) ⌝ }
+    {
+        self.render_state.ended || self.lacks_buffer()
+    }
+
     // A block that no row of the table refuses, in the Rust's order of cases.
     fn render(
         self,
@@ -207,22 +214,18 @@ impl Player {
         ensures { λ r. ⌜ (r ≡ reportOf (plan 128 self time rate factor))
             × (now (out .exit) ≡ written 128 (plan 128 self time rate factor .sample) (self .shape .frames) (now (samples .entry)) (now (out .entry)) (plan 128 self time rate factor .channels)) ⌝ }
     {
-        if self.render_state.ended {
-            return self.idle(time, true).silent_block(out, false);
-        }
-        if self.lacks_buffer() {
-            return self.idle(time, true).silent_block(out, false);
+        if self.is_over() {
+            return self.silent_block(out, time, true, false);
         }
         let next_block_time = block_end(time, self.sample_rate);
         if self.start_time.0 >= next_block_time {
             if self.stop_time.0 <= next_block_time {
-                return self.idle(time, true).silent_block(out, false);
+                return self.silent_block(out, time, true, false);
             }
-            return self.idle(time, false)
-                .silent_block(out, self.start_time.0 != NEVER);
+            return self.silent_block(out, time, false, self.start_time.0 != NEVER);
         }
         if !self.has_buffer {
-            return self.idle(time, false).silent_block(out, false);
+            return self.silent_block(out, time, false, false);
         }
         let computed = computed_rate(rate, factor);
         if self.is_aligned(time, computed) {

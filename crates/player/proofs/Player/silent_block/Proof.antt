@@ -27,6 +27,9 @@ part-fill-zeros-end c = search needs
 fill-zeros-requires : tie.Need-fill-zeros-requires
 fill-zeros-requires c κs = search needs
 
+idle-requires : tie.Need-idle-requires
+idle-requires c κs = search needs
+
 report-requires : tie.Need-report-requires
 report-requires c κs = search needs
 
@@ -34,7 +37,7 @@ same-length : tie.Need-same-length
 same-length c = search needs
 
 returns : tie.Need-returns
-returns c = (c .report .ensures, front _ _ (omega arith) (c .before .before .before .fill-zeros .ensures))
+returns c = (rw (c .report .ensures, c .before .idle .ensures), front _ _ (omega arith) (c .before .before .before .before .fill-zeros .ensures))
 
 pub silent-block-spec : {M : Type 1} → statement M
-silent-block-spec = tie.close (tie.spec sub-fill-zeros part-fill-zeros-start part-fill-zeros-end fill-zeros-requires report-requires same-length returns)
+silent-block-spec = tie.close (tie.spec sub-fill-zeros part-fill-zeros-start part-fill-zeros-end fill-zeros-requires idle-requires report-requires same-length returns)
