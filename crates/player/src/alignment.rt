@@ -13,7 +13,7 @@ use super::seconds::widened;
 
 impl Player {
     // The clip's duration.
-    pub fn clip_seconds(self) -> f64
+    pub(crate) fn clip_seconds(self) -> f64
         ensures { λ r. ⌜ r ≡ clipSeconds self ⌝ }
     {
         let shape = self.shape;
@@ -21,14 +21,14 @@ impl Player {
     }
 
     // The clip's rate by the output's.
-    pub fn sampling_ratio(self) -> f64
+    pub(crate) fn sampling_ratio(self) -> f64
         ensures { λ r. ⌜ r ≡ samplingRatio self ⌝ }
     {
         widened(self.shape.rate) / widened(self.sample_rate)
     }
 
     // A start in the past moves to the block time, unless it has begun.
-    pub fn start_at(self, time: f64) -> f64
+    pub(crate) fn start_at(self, time: f64) -> f64
         ensures { λ r. ⌜ r ≡ startAt self time ⌝ }
     {
         if self.render_state.started {
@@ -84,7 +84,7 @@ impl Player {
     }
 
     // Whether the block is aligned.
-    pub fn is_aligned(self, time: f64, computed: f64) -> bool
+    pub(crate) fn is_aligned(self, time: f64, computed: f64) -> bool
         ensures { λ r. ⌜ r ≡ isAligned 128 self time computed ⌝ }
     {
         if !self.can_align(time) {
@@ -120,7 +120,7 @@ impl Player {
     }
 
     // Whether a block that leaves the player at this position and elapsed time ends it.
-    pub fn has_ended(self, time: f64, computed: f64, position: f64, elapsed: f64) -> bool
+    pub(crate) fn has_ended(self, time: f64, computed: f64, position: f64, elapsed: f64) -> bool
         ensures { λ r. ⌜ r ≡ hasEnded 128 self time computed position elapsed ⌝ }
     {
         if block_end(time, self.sample_rate) >= self.stop_time.0 {
@@ -136,7 +136,7 @@ impl Player {
     }
 
     // Whether an aligned block starts the clip again.
-    pub fn turns_over(self) -> bool
+    pub(crate) fn turns_over(self) -> bool
         ensures { λ r. ⌜ r ≡ turnsOver 128 self ⌝ }
     {
         if self.loop_state.is_looping {
@@ -150,7 +150,7 @@ impl Player {
     }
 
     // The frame with which an aligned block begins.
-    pub fn first_of(self) -> usize
+    pub(crate) fn first_of(self) -> usize
         ensures { λ r. ⌜ r ≡ firstOf self ⌝ }
     {
         first_frame(self.render_state.buffer_time.0, self.sample_rate)

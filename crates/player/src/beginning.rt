@@ -51,7 +51,7 @@ impl Player {
     }
 
     // What stays the same over the block's samples.
-    pub fn settings(self, time: f64, rate: f32, computed: f64) -> Settings
+    pub(crate) fn settings(self, time: f64, rate: f32, computed: f64) -> Settings
         ensures { λ r. ⌜ r ≡ settings self time rate computed ⌝ }
     {
         let stop_time = self.stop_time;
@@ -81,7 +81,7 @@ impl Player {
     }
 
     // The playhead before the first sample.
-    pub fn first_head(self, time: f64) -> Playhead
+    pub(crate) fn first_head(self, time: f64) -> Playhead
         ensures { λ r. ⌜ r ≡ firstHead self time ⌝ }
     {
         let offset = self.offset;

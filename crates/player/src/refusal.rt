@@ -58,7 +58,7 @@ impl Player {
     }
 
     // The number of the refusal, and 0 for none.
-    pub fn block_refusal(
+    pub(crate) fn block_refusal(
         self,
         out_len: usize,
         samples_len: usize,
