@@ -20,8 +20,7 @@ use super::frames::smaller;
 use super::sub_sample::step;
 use rounding::NEAR_TOLERANCE;
 use rounding::floor;
-use rounding::fma;
-use rounding::narrow;
+use rounding::fma_narrow;
 use rounding::near;
 use rounding::truncate;
 use rounding::widen;
@@ -125,7 +124,7 @@ fn sample_of(s: Settings, channel: &[u32], info: PlaybackInfo) -> u32
         let k = info.k;
         let prev_sample = frame_at(channel, frame);
         let next_sample = following(s, channel, frame, k);
-        return narrow(fma(1.0 - k, prev_sample, k * next_sample));
+        return fma_narrow(1.0 - k, prev_sample, k * next_sample);
     }
     0
 }

@@ -142,9 +142,8 @@ of-relative P x n c h = omega arith
 of-half : (P x n c : ℕ) → Within c (2 * x) (2 * n) → Within (2 * n + P * c) (2 * (P * x)) (2 * (P * n))
 of-half P x n c h = omega (arith, mul-le-mul-left P (h .0), mul-le-mul-left P (h .1))
 
-pub round-near-any : (f : Format) (a c : ℕ) → 0 < c → a < 2 ^ emax f * c → RoundedAny f (round f false a c) a c
-round-near-any f a c C l =
-    record { units = grid f a c; value = round-val f a c (grid-under f a c C l); near = go (leb N n) (leb→le N n) (nleb→lt N n) }
+pub grid-near-any : (f : Format) (a c : ℕ) → 0 < c → Within (2 * (a * 2 ^ low f) + 2 ^ prec f * c) (2 * (2 ^ prec f * (grid f a c * c))) (2 * (2 ^ prec f * (a * 2 ^ low f)))
+grid-near-any f a c C = go (leb N n) (leb→le N n) (nleb→lt N n)
   where
     n : ℕ
     n = a * 2 ^ low f
@@ -155,3 +154,6 @@ round-near-any f a c C l =
     go : (b : Bool) → (T b → N ≤ n) → (T (not b) → n < N) → Within (2 * n + 2 ^ prec f * c) (2 * (2 ^ prec f * (grid f a c * c))) (2 * (2 ^ prec f * n))
     go true h k = of-relative (2 ^ prec f) (grid f a c * c) n c (grid-near f a c C (h tt))
     go false h k = of-half (2 ^ prec f) (grid f a c * c) n c (grid-near-small f a c C (lt-of-lt-of-le (k tt) (mul-le-mul-right c (lower (prec f)))))
+
+pub round-near-any : (f : Format) (a c : ℕ) → 0 < c → a < 2 ^ emax f * c → RoundedAny f (round f false a c) a c
+round-near-any f a c C l = record { units = grid f a c; value = round-val f a c (grid-under f a c C l); near = grid-near-any f a c C }

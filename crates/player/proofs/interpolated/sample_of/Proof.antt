@@ -27,18 +27,15 @@ frame-at-requires c κs = search needs
 following-requires : tie.Need-following-requires
 following-requires c κs = search needs
 
-fma-requires : tie.Need-fma-requires
-fma-requires c κs = search needs
-
-narrow-requires : tie.Need-narrow-requires
-narrow-requires c κs = search needs
+fma-narrow-requires : tie.Need-fma-narrow-requires
+fma-narrow-requires c κs = search needs
 
 returns : tie.Need-returns
-returns c = rw (c .narrow .ensures, c .before .fma .ensures, c .before .before .following .ensures, c .before .before .before .frame-at .ensures) (sym (plays _ _ _ (c .before .before .before .before .if1 .taken)))
+returns c = rw (c .fma-narrow .ensures, c .before .following .ensures, c .before .before .frame-at .ensures) (sym (plays _ _ _ (c .before .before .before .if1 .taken)))
 
 returns-2 : tie.Need-returns-2
 unfolding sampleOf
 returns-2 c = left _ _ _ (c .if1 .left) refl
 
 pub sample-of-spec : {M : Type 1} → statement M
-sample-of-spec = tie.close (tie.spec frame-at-requires following-requires fma-requires narrow-requires returns returns-2)
+sample-of-spec = tie.close (tie.spec frame-at-requires following-requires fma-narrow-requires returns returns-2)

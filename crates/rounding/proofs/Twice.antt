@@ -1,0 +1,322 @@
+-- a * b + c rounded after the product and after the sum, and rounded once, narrow to the same f32, where the product is not large beside the sum, and the former sum is apart from the ties (`Apart`). Assumes nothing.
+use mathlib.Core.Path.{_≡_, refl, sym, ap, _∙_, subst}
+use mathlib.Core.Logic.{_⊎_, inl, inr}
+use mathlib.Core.Bool.{Bool, true, false, not, Bool·beq, cond, false≢true}
+use Prim.Native.Nat.{ℕ, _+_, _-_, _*_, _%_, _^_, _≤_, _<_}
+use native.Mathlib.Nat.{mul-lt-mul-of-pos-right, mod-lt, le-of-lt, le-trans, mul-pos, mul-assoc, mul-le-mul-left, mul-le-mul-right, eq-of-mul-eq-mul-right, eq-or-lt-of-le}
+use native.Mathlib.Omega.{arith}
+use lib.Dec.{T, eqb, lit≤}
+use lib.Pow.{pow-pos, pow-mono}
+use lib.Ieee.{Float, nan, inf, fin, Format, low, binary32, binary64, up, down, unlike, round, sum, neg, add, mul, fits, isNan, toBits}
+use lib.Ieee.Bits.{ofBits-toBits}
+use lib.Ieee.Exact.{HasValue}
+use lib.Ieee.Fits.{round-fits, add-fits, mul-fits, down-pos}
+use lib.Ieee.Scale.{finite, grid, overflow, round-val, round-under}
+use Rattle.rounding.specs.Apart.{Apart}
+use Rattle.rounding.specs.Fields.{field, digits, place, negative}
+use Rattle.rounding.specs.Laws.{Within}
+use Rattle.rounding.specs.Rounding.{narrow, fma, magnitude}
+use Rattle.rounding.proofs.Error.{grid-near-any, grid-near-whole, grid-under}
+use Rattle.rounding.proofs.Exact.{significand, two-values, value-unique}
+use Rattle.rounding.proofs.Bounds.{Off, Linked, cancel-unit, product-above, product-below, linked-sum, linked-above, linked-below, once-near, near-patterns, at-most-32}
+use Rattle.rounding.proofs.Operations.{add-value, mul-value}
+use Rattle.rounding.proofs.Pattern.{sign-apart}
+use Rattle.rounding.proofs.Product.{fma-value}
+use Rattle.rounding.proofs.Read.{read, read-inf, field-le, digits-lt, digits-full, convert-value, no-nan-bits}
+use Rattle.rounding.proofs.SignBit.{low-pattern, magnitude-fits, of-low}
+use Rattle.rounding.proofs.Signs.{value-neg, round-not, magnitude-value}
+use Rattle.rounding.proofs.Single.{pat}
+use Rattle.rounding.proofs.Sum.{sum-alike, sum-more, sum-less, sum-none, sum-same, Order, order, less, more, none}
+use Rattle.rounding.proofs.Untied.{parts, not-negative, below-ones, whole-pattern, same-pattern}
+
+-- ---- a finite result has finite operands
+finite-sum : (f : Format) (x y : Float) → T (finite (add f x y)) → (finite x ≡ true) × (finite y ≡ true)
+unfolding add
+finite-sum f nan y h = absurd h
+finite-sum f (inf u) nan h = absurd h
+finite-sum f (inf u) (inf v) h = absurd (go (Bool·beq u v) h)
+  where
+    go : (b : Bool) → T (finite (cond b (inf u) nan)) → ⊥
+    go true k = k
+    go false k = k
+finite-sum f (inf u) (fin v n d) h = absurd h
+finite-sum f (fin u m e) nan h = absurd h
+finite-sum f (fin u m e) (inf v) h = absurd h
+finite-sum f (fin u m e) (fin v n d) h = (refl, refl)
+
+finite-product : (f : Format) (x y : Float) → finite (mul f x y) ≡ true → (finite x ≡ true) × (finite y ≡ true)
+unfolding mul
+finite-product f nan y h = absurd (false≢true h)
+finite-product f (inf u) nan h = absurd (false≢true h)
+finite-product f (inf u) (inf v) h = absurd (false≢true h)
+finite-product f (inf u) (fin v n d) h = absurd (go (eqb n 0) h)
+  where
+    go : (b : Bool) → finite (cond b nan (inf (unlike u v))) ≡ true → ⊥
+    go true k = false≢true k
+    go false k = false≢true k
+finite-product f (fin u m e) nan h = absurd (false≢true h)
+finite-product f (fin u m e) (inf v) h = absurd (go (eqb m 0) h)
+  where
+    go : (b : Bool) → finite (cond b nan (inf (unlike u v))) ≡ true → ⊥
+    go true k = false≢true k
+    go false k = false≢true k
+finite-product f (fin u m e) (fin v n d) h = (refl, refl)
+
+-- ---- a value by the digits and the place of its pattern
+not-nan : (x : Float) (s : Bool) (a c : ℕ) → HasValue x s a c → T (not (isNan x))
+unfolding isNan
+not-nan nan s a c h = absurd h
+not-nan (inf t) s a c h = absurd h
+not-nan (fin t m e) s a c h = tt
+
+by-digits : (x : Float) (s : Bool) (a : ℕ) → T (fits binary64 x) → HasValue x s a (2 ^ 1074) → a ≡ digits binary64 (toBits binary64 x) * 2 ^ place binary64 (toBits binary64 x)
+by-digits x s a t h = go (eq-or-lt-of-le (field-le binary64 b))
+  where
+    b : ℕ
+    b = toBits binary64 x
+
+    go : (field binary64 b ≡ 2047) ⊎ (field binary64 b < 2047) → a ≡ digits binary64 b * 2 ^ place binary64 b
+    go (inl e) = absurd (subst (λ (y : Float). HasValue y s a (2 ^ 1074)) (sym (ofBits-toBits binary64 x t) ∙ read-inf binary64 b e (no-nan-bits binary64 x t (not-nan x s a (2 ^ 1074) h))) h)
+    go (inr l) =
+        eq-of-mul-eq-mul-right (2 ^ 1074) (pow-pos 1074) a (digits binary64 b * 2 ^ place binary64 b)
+        (two-values x s (negative binary64 b) a (2 ^ 1074) (digits binary64 b * 2 ^ place binary64 b) (2 ^ 1074) h
+        (subst (λ (y : Float). HasValue y (negative binary64 b) (digits binary64 b * 2 ^ place binary64 b) (2 ^ 1074)) (ofBits-toBits binary64 x t) (read binary64 b l)))
+
+-- ---- a rounded fraction with either sign, narrowed
+round-value : (f : Format) (s : Bool) (a c : ℕ) → grid f a c < overflow f → HasValue (round f s a c) s (grid f a c) (2 ^ low f)
+round-value f false a c l = round-val f a c l
+round-value f true a c l = subst (λ (x : Float). HasValue x true (grid f a c) (2 ^ low f)) (sym (round-not f false a c)) (value-neg (round f false a c) false (grid f a c) (2 ^ low f) (round-val f a c l))
+
+narrow-round : (s : Bool) (a c : ℕ) → grid binary64 a c < overflow binary64
+    → let b = toBits binary64 (round binary64 false a c) in
+    narrow (round binary64 s a c) ≡ cond s (2 ^ 31) 0 + pat false (digits binary64 b) (place binary64 b)
+unfolding narrow
+narrow-round s a c l =
+    ap (toBits binary32) (convert-value binary32 (round binary64 s a c) s (grid binary64 a c) (2 ^ 1074) (pow-pos 1074) (round-value binary64 s a c l))
+    ∙ sign-apart binary32 s (grid binary64 a c) (2 ^ 1074)
+    ∙ ap (λ (x : ℕ). cond s (2 ^ 31) 0 + toBits binary32 (round binary32 false x (2 ^ 1074))) (by-digits (round binary64 false a c) false (grid binary64 a c) (round-fits binary64 false a c) (round-val binary64 a c l))
+
+-- ---- the two sums as roundings of fractions: N / D is the product, P units are the product rounded, and C units are c. S is the product's sign
+record Product (a b p : Float) : Type 0 where
+  N : ℕ
+  D : ℕ
+  S : Bool
+  pos : 0 < D
+  is : p ≡ round binary64 S N D
+  once : (c : Float) (t : Bool) (C : ℕ) → HasValue c t C (2 ^ 1074) → fma binary64 a b c ≡ sum binary64 S (N * 2 ^ 1074) t (C * D) (D * 2 ^ 1074)
+
+product-of : (a b : Float) → finite a ≡ true → finite b ≡ true → Product a b (mul binary64 a b)
+product-of nan b f g = absurd (false≢true f)
+product-of (inf s) b f g = absurd (false≢true f)
+product-of (fin s m e) nan f g = absurd (false≢true g)
+product-of (fin s m e) (inf t) f g = absurd (false≢true g)
+product-of (fin s m e) (fin t n d) f g = record {
+  N = m * up e * (n * up d);
+  D = down e * down d;
+  S = unlike s t;
+  pos = mul-pos (down-pos e) (down-pos d);
+  is = mul-value binary64 (fin s m e) (fin t n d) s t (m * up e) (down e) (n * up d) (down d) (down-pos e) (down-pos d) (refl, refl) (refl, refl);
+  once = λ c v C h. fma-value binary64 (fin s m e) (fin t n d) c s t v (m * up e) (down e) (n * up d) (down d) C (2 ^ 1074) (down-pos e) (down-pos d) (pow-pos 1074) (refl, refl) (refl, refl) h;
+}
+
+has-finite : (x : Float) (s : Bool) (i j : ℕ) → HasValue x s i j → T (finite x)
+has-finite nan s i j v = absurd v
+has-finite (inf u) s i j v = absurd v
+has-finite (fin u m g) s i j v = tt
+
+finite-neg : (x : Float) → T (finite (neg x)) → T (finite x)
+unfolding neg
+finite-neg nan h = h
+finite-neg (inf s) h = h
+finite-neg (fin s m e) h = tt
+
+under-any : (f : Format) (s : Bool) (a c : ℕ) → T (finite (round f s a c)) → grid f a c < overflow f
+under-any f false a c h = round-under f a c h
+under-any f true a c h = round-under f a c (finite-neg (round f false a c) (subst (λ (x : Float). T (finite x)) (round-not f false a c) h))
+
+same-sign : (x : Float) (s t : Bool) (a c b d : ℕ) → HasValue x s a c → HasValue x t b d → t ≡ s
+same-sign nan s t a c b d h k = absurd h
+same-sign (inf u) s t a c b d h k = absurd h
+same-sign (fin u m e) s t a c b d h k = sym (k .0) ∙ h .0
+
+finite-magnitude : (x : Float) → T (finite (magnitude x)) → T (finite x)
+unfolding magnitude
+finite-magnitude nan h = h
+finite-magnitude (inf s) h = h
+finite-magnitude (fin s m e) h = tt
+
+-- ---- the numbers
+not-over : (T Y D u E : ℕ) → T ≤ 66 * (Y * D) + D → 66 * Y + 1 < E * u → 0 < D → T < E * (D * u)
+not-over T Y D u E t y d = let a = mul-lt-mul-of-pos-right y d in omega arith
+
+small : (d k : ℕ) → d < 2 * 2 ^ 52 → k ≤ 1148 → 66 * (d * 2 ^ k) + 1 < 2 ^ 1023 * 2 ^ 1074
+small d k s h =
+    let a : d * 2 ^ k ≤ 2 ^ 53 * 2 ^ 1148 = le-trans (mul-le-mul-right (2 ^ k) (le-of-lt s)) (mul-le-mul-left (2 ^ 53) (pow-mono {i = k} {j = 1148} h)) in
+    go (d * 2 ^ k) (2 ^ 53 * 2 ^ 1148) (2 ^ 1023 * 2 ^ 1074) a (lit≤ tt)
+  where
+    go : (y w e : ℕ) → y ≤ w → 66 * w + 2 ≤ e → 66 * y + 1 < e
+    go y w e h k = omega arith
+
+at-least-three : (k : ℕ) → 897 ≤ k → 3 ≤ 2 ^ k
+at-least-three k h = le-trans (lit≤ tt) (pow-mono {i = 2} {j = k} (omega arith))
+
+at-least-six : (d k : ℕ) → 2 ^ 52 ≤ d → 897 ≤ k → 6 ≤ d * 2 ^ k
+at-least-six d k h l = let a = mul-le-mul-left d (at-least-three k l) in omega arith
+
+-- y is P and C, added with the signs s and t and rounded; x is N / D and C. b is y's pattern without its sign
+module _ (N D C b r : ℕ) (pos : 0 < D) (h : Apart b r) (most : grid binary64 N D ≤ 32 * (digits binary64 b * 2 ^ place binary64 b))
+    (x y : Float) (v : HasValue (magnitude y) false (digits binary64 b * 2 ^ place binary64 b) (2 ^ 1074)) where
+  P : ℕ
+  P = grid binary64 N D
+
+  Y : ℕ
+  Y = digits binary64 b * 2 ^ place binary64 b
+
+  some : 6 ≤ Y
+  unfolding Y
+  some = let g = parts b r h in at-least-six (digits binary64 b) (place binary64 b) (g .full) (g .low)
+
+  product : Off (2 ^ 53) D (N * 2 ^ 1074) P
+  unfolding P
+  product = grid-near-any binary64 N D pos
+
+  small-product : P ≤ 32 * Y
+  unfolding P Y
+  small-product = most
+
+  abbrev Result : Bool → Type 0
+  Result s = HasValue y s (digits binary64 b * 2 ^ place binary64 b) (2 ^ 1074) × (narrow x ≡ cond s (2 ^ 31) 0 + r)
+
+  -- y is q rounded
+  value-of : (s : Bool) (q : ℕ) → y ≡ round binary64 s q (2 ^ 1074) → HasValue y s (grid binary64 q (2 ^ 1074)) (2 ^ 1074)
+  value-of s q e =
+      subst (λ (z : Float). HasValue z s (grid binary64 q (2 ^ 1074)) (2 ^ 1074)) (sym e)
+      (round-value binary64 s q (2 ^ 1074) (under-any binary64 s q (2 ^ 1074) (subst (λ (z : Float). T (finite z)) e (finite-magnitude y (has-finite (magnitude y) false _ _ v)))))
+
+  rounded-to : (s : Bool) (q : ℕ) → y ≡ round binary64 s q (2 ^ 1074) → grid binary64 q (2 ^ 1074) ≡ Y
+  unfolding Y
+  rounded-to s q e = value-unique (magnitude y) false (grid binary64 q (2 ^ 1074)) (digits binary64 b * 2 ^ place binary64 b) (2 ^ 1074) (magnitude-value y s (grid binary64 q (2 ^ 1074)) (2 ^ 1074) (value-of s q e)) v
+
+  total : (s : Bool) (q : ℕ) → y ≡ round binary64 s q (2 ^ 1074) → Within q (2 ^ 53 * Y) (2 ^ 53 * q)
+  total s q e = subst (λ (z : ℕ). Within q (2 ^ 53 * z) (2 ^ 53 * q)) (rounded-to s q e) (grid-near-whole binary64 q)
+
+  -- and x is X / D rounded, near it
+  finish : (s : Bool) (q X : ℕ) → y ≡ round binary64 s q (2 ^ 1074) → x ≡ round binary64 s X (D * 2 ^ 1074) → Linked (2 ^ 53) D (N * 2 ^ 1074) q Y X → Result s
+  unfolding Y P
+  finish s q X ey ex link =
+      let g = parts b r h in
+      let d : ℕ = digits binary64 b in
+      let k : ℕ = place binary64 b in
+      let z : Float = round binary64 false X (D * 2 ^ 1074) in
+      let e : ℕ = digits binary64 (toBits binary64 z) in
+      let j : ℕ = place binary64 (toBits binary64 z) in
+      let R : ℕ = grid binary64 X (D * 2 ^ 1074) in
+      let o : R < overflow binary64 = grid-under binary64 X (D * 2 ^ 1074) (mul-pos pos (pow-pos 1074)) (not-over X (d * 2 ^ k) D (2 ^ 1074) (2 ^ 1023) (link .1) (small d k (g .short) (g .high)) pos) in
+      let w : Within (256 * 2 ^ k) R (d * 2 ^ k) =
+      once-near (2 ^ 53) D (N * 2 ^ 1074) C P (d * 2 ^ k) q (lit≤ tt) pos some product (total s q ey) most X R (2 ^ k) link
+      (cancel-unit (2 ^ 53) D (2 ^ 1074) X R (pow-pos 1074) (grid-near-any binary64 X (D * 2 ^ 1074) (mul-pos pos (pow-pos 1074))))
+      (mul-le-mul-right (2 ^ k) (le-of-lt (g .short))) (at-least-three k (g .low)) in
+      let u : Within (256 * 2 ^ k) (e * 2 ^ j) (d * 2 ^ k) = subst (λ (i : ℕ). Within (256 * 2 ^ k) i (d * 2 ^ k)) (by-digits z false R (round-fits binary64 false X (D * 2 ^ 1074)) (round-val binary64 X (D * 2 ^ 1074) o)) w in
+      let n : Within 512 (j * 2 ^ 52 + e) (k * 2 ^ 52 + d) = near-patterns (2 ^ 52) (lit≤ tt) d k e j (g .full) (g .short) (digits-full binary64 (toBits binary64 z)) (digits-lt binary64 (toBits binary64 z)) u in
+      let p : pat false e j ≡ r = same-pattern b r h e j (digits-lt binary64 (toBits binary64 z)) (digits-full binary64 (toBits binary64 z)) (subst (λ (i : ℕ). Within 512 (j * 2 ^ 52 + e) i) (g .sum) n) in
+      (subst (λ (i : ℕ). HasValue y s i (2 ^ 1074)) (rounded-to s q ey) (value-of s q ey), ap narrow ex ∙ narrow-round s X (D * 2 ^ 1074) o ∙ ap (λ (i : ℕ). cond s (2 ^ 31) 0 + i) p)
+
+  alike : (s : Bool) → y ≡ sum binary64 s P s C (2 ^ 1074) → x ≡ sum binary64 s (N * 2 ^ 1074) s (C * D) (D * 2 ^ 1074) → Result s
+  alike s ey ex =
+      let e = ey ∙ sum-alike binary64 s P C (2 ^ 1074) in
+      finish s (P + C) (N * 2 ^ 1074 + C * D) e (ex ∙ sum-alike binary64 s (N * 2 ^ 1074) (C * D) (D * 2 ^ 1074))
+      (linked-sum (2 ^ 53) D (N * 2 ^ 1074) C P Y (P + C) (lit≤ tt) pos some product (total s (P + C) e) small-product refl (N * 2 ^ 1074 + C * D) refl)
+
+  back : (i j : ℕ) → j < i → i - j + j ≡ i
+  back i j l = omega arith
+
+  unalike : (s t : Bool) → Bool·beq s t ≡ false → y ≡ sum binary64 s P t C (2 ^ 1074) → x ≡ sum binary64 s (N * 2 ^ 1074) t (C * D) (D * 2 ^ 1074) → Result s ⊎ Result t
+  unalike s t apart ey ex = go (order P C)
+    where
+      go : Order P C → Result s ⊎ Result t
+      go (more l) =
+          let e = ey ∙ sum-more binary64 s t P C (2 ^ 1074) apart l in
+          let w = total s (P - C) e in
+          let m = product-above (2 ^ 53) D (N * 2 ^ 1074) C P Y (P - C) (lit≤ tt) pos some product w small-product (back P C l) in
+          inl (finish s (P - C) (N * 2 ^ 1074 - C * D) e (ex ∙ sum-more binary64 s t (N * 2 ^ 1074) (C * D) (D * 2 ^ 1074) apart m)
+          (linked-above (2 ^ 53) D (N * 2 ^ 1074) C P Y (P - C) (lit≤ tt) pos some product w small-product (back P C l) (N * 2 ^ 1074 - C * D) (back (N * 2 ^ 1074) (C * D) m)))
+      go (less l) =
+          let e = ey ∙ sum-less binary64 s t P C (2 ^ 1074) apart l in
+          let w = total t (C - P) e in
+          let m = product-below (2 ^ 53) D (N * 2 ^ 1074) C P Y (C - P) (lit≤ tt) pos some product w small-product (back C P l) in
+          inr (finish t (C - P) (C * D - N * 2 ^ 1074) e (ex ∙ sum-less binary64 s t (N * 2 ^ 1074) (C * D) (D * 2 ^ 1074) apart m)
+          (linked-below (2 ^ 53) D (N * 2 ^ 1074) C P Y (C - P) (lit≤ tt) pos some product w small-product (back C P l) (C * D - N * 2 ^ 1074) (back (C * D) (N * 2 ^ 1074) m)))
+      go (none q) = absurd (nothing Y some (total false 0 (ey ∙ sum-none binary64 s t P C (2 ^ 1074) apart q)))
+        where
+          nothing : (z : ℕ) → 6 ≤ z → Within 0 (2 ^ 53 * z) (2 ^ 53 * 0) → ⊥
+          nothing z l w = omega arith
+
+  either : (s t : Bool) → y ≡ sum binary64 s (grid binary64 N D) t C (2 ^ 1074) → x ≡ sum binary64 s (N * 2 ^ 1074) t (C * D) (D * 2 ^ 1074) → Result s ⊎ Result t
+  unfolding P
+  either true true ey ex = inl (alike true ey ex)
+  either false false ey ex = inl (alike false ey ex)
+  either true false ey ex = unalike true false refl ey ex
+  either false true ey ex = unalike false true refl ey ex
+
+-- ---- so the narrowed sums are the same
+record Signed (c : Float) : Type 0 where
+  sign : Bool
+  units : ℕ
+  value : HasValue c sign units (2 ^ 1074)
+
+signed : (c : Float) → T (fits binary64 c) → finite c ≡ true → Signed c
+signed nan t f = absurd (false≢true f)
+signed (inf s) t f = absurd (false≢true f)
+signed (fin s n g) t f = let w = significand binary64 (fin s n g) s (n * up g) (down g) t (refl, refl) in record { sign = s; units = w .q * 2 ^ w .j; value = w .value }
+
+shared : (i u : ℕ) → i * u * u ≡ i * (u * u)
+shared i u = mul-assoc i u u
+
+pub narrow-alike : (a b c : Float) → T (fits binary64 c) → (r : ℕ)
+    → let p = mul binary64 a b in let y = add binary64 p c in T (not (isNan p)) → T (not (isNan y))
+    → toBits binary64 p % 2 ^ 63 ≤ toBits binary64 y % 2 ^ 63 + 5 * 2 ^ 52 → Apart (toBits binary64 y % 2 ^ 63) r
+    → cond (negative binary64 (toBits binary64 y)) (2 ^ 31) 0 + r ≡ narrow (fma binary64 a b c)
+narrow-alike a b c t r np ny l h =
+    let p : Float = mul binary64 a b in
+    let y : Float = add binary64 p c in
+    let fp = mul-fits binary64 a b in
+    let fy = add-fits binary64 p c in
+    let n : ℕ = toBits binary64 y % 2 ^ 63 in
+    let Y : ℕ = digits binary64 n * 2 ^ place binary64 n in
+    let v : HasValue (magnitude y) false Y (2 ^ 1074) =
+    subst (λ (s : Bool). HasValue (magnitude y) s Y (2 ^ 1074)) (not-negative n r h)
+    (subst (λ (x : Float). HasValue x (negative binary64 n) Y (2 ^ 1074)) (of-low binary64 y fy ny) (read binary64 n (below-ones n r h))) in
+    let fs = finite-sum binary64 p c (finite-magnitude y (has-finite (magnitude y) false Y (2 ^ 1074) v)) in
+    let ff = finite-product binary64 a b (fs .0) in
+    let m = product-of a b (ff .0) (ff .1) in
+    let z = signed c t (fs .1) in
+    let P : ℕ = grid binary64 (m .N) (m .D) in
+    let vp : HasValue p (m .S) P (2 ^ 1074) =
+    subst (λ (x : Float). HasValue x (m .S) P (2 ^ 1074)) (sym (m .is))
+    (round-value binary64 (m .S) (m .N) (m .D) (under-any binary64 (m .S) (m .N) (m .D) (subst (λ (x : Float). T (finite x)) (m .is) (subst T (sym (fs .0)) tt)))) in
+    let k : ℕ = toBits binary64 p % 2 ^ 63 in
+    let ep : P ≡ digits binary64 k * 2 ^ place binary64 k =
+    subst (λ (x : ℕ). P ≡ digits binary64 x * 2 ^ place binary64 x) (sym (low-pattern binary64 p fp np)) (by-digits (magnitude p) false P (magnitude-fits binary64 p fp) (magnitude-value p (m .S) P (2 ^ 1074) vp)) in
+    let g = parts n r h in
+    let most : P ≤ 32 * Y =
+    subst (λ (x : ℕ). x ≤ 32 * Y) (sym ep)
+    (at-most-32 (2 ^ 52) (lit≤ tt) (digits binary64 n) (place binary64 n) (digits binary64 k) (place binary64 k) (g .full) (g .short) (digits-full binary64 k) (digits-lt binary64 k)
+    (ordered _ _ k n (whole-pattern k (mod-lt (toBits binary64 p) (pow-pos 63))) (g .sum) l)) in
+    let ey = add-value binary64 p c (m .S) (z .sign) P (2 ^ 1074) (z .units) (2 ^ 1074) (pow-pos 1074) (pow-pos 1074) vp (z .value)
+    ∙ sum-same binary64 (m .S) (z .sign) (P * 2 ^ 1074) (z .units * 2 ^ 1074) (2 ^ 1074 * 2 ^ 1074) P (z .units) (2 ^ 1074) (mul-pos (pow-pos 1074) (pow-pos 1074)) (pow-pos 1074) (shared P (2 ^ 1074)) (shared (z .units) (2 ^ 1074)) in
+    let B : ℕ = toBits binary64 y in
+    let I : ℕ = digits binary64 B * 2 ^ place binary64 B in
+    let vy : HasValue y (negative binary64 B) I (2 ^ 1074) = subst (λ (x : Float). HasValue x (negative binary64 B) I (2 ^ 1074)) (ofBits-toBits binary64 y fy) (read binary64 (toBits binary64 y) (low-field (toBits binary64 y) (h .most))) in
+    ends y (fma binary64 a b c) Y (negative binary64 B) I vy (m .S) (z .sign) r
+    (either (m .N) (m .D) (z .units) n r (m .pos) h most (fma binary64 a b c) y v (m .S) (z .sign) ey (m .once c (z .sign) (z .units) (z .value)))
+  where
+    ordered : (i j k n : ℕ) → i ≡ k → j ≡ n → k ≤ n + 5 * 2 ^ 52 → i ≤ j + 5 * 2 ^ 52
+    ordered i j k n e f l = omega arith
+
+    low-field : (b : ℕ) → b % 2 ^ 63 < 1150 * 2 ^ 52 → field binary64 b < 2047
+    low-field b l = omega arith
+
+    ends : (y x : Float) (Y : ℕ) (u : Bool) (i : ℕ) → HasValue y u i (2 ^ 1074) → (s t : Bool) (r : ℕ)
+        → (HasValue y s Y (2 ^ 1074) × (narrow x ≡ cond s (2 ^ 31) 0 + r)) ⊎ (HasValue y t Y (2 ^ 1074) × (narrow x ≡ cond t (2 ^ 31) 0 + r)) → cond u (2 ^ 31) 0 + r ≡ narrow x
+    ends y x Y u i w s t r (inl e) = ap (λ (z : Bool). cond z (2 ^ 31) 0 + r) (same-sign y s u Y (2 ^ 1074) i (2 ^ 1074) (e .0) w) ∙ sym (e .1)
+    ends y x Y u i w s t r (inr e) = ap (λ (z : Bool). cond z (2 ^ 31) 0 + r) (same-sign y t u Y (2 ^ 1074) i (2 ^ 1074) (e .0) w) ∙ sym (e .1)
