@@ -1,0 +1,39 @@
+// The subject of the differential runs: obeys the lines of oracle/PROTOCOL.md from standard input,
+// over the calls of player and buffer, and prints the answers. All memory is lent by `main`: a clip,
+// the words of a call and a result have room for 262,144 words each, and what does not fit prints
+// `X 0` (oracle/README.md).
+mod blocks;
+mod calls;
+mod control;
+mod input;
+mod machine;
+mod print;
+mod scan;
+mod words;
+
+ghost use mathlib.Core.Path.{_≡_};
+ghost use lib.ListN.{length};
+
+// Room for a clip, a call's words or a result.
+fn room() -> [u32; 262144]
+    ensures { λ r. ⌜ 262144 ≡ length r ⌝ }
+{
+    [0; 262144]
+}
+
+fn main() {
+    let mut piece = io::large_buffer();
+    let mut text = io::large_buffer();
+    let mut clip = room();
+    let mut words = room();
+    let mut first = room();
+    let mut rest = room();
+    input::run(
+        &mut piece,
+        &mut text,
+        &mut clip,
+        &mut words,
+        &mut first,
+        &mut rest,
+    );
+}
