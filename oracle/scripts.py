@@ -17,6 +17,7 @@ FACTORS = [2.0, 0.5, TWO_64, 1 / TWO_64, 1.0000000000000002, 0.9999999999999999,
 SPECIAL = ["00000000", "80000000", "00000001", "80000001", "007FFFFF", "00800000", "7F7FFFFF", "FF7FFFFF", "7F800000",
            "FF800000", "7FC00000", "7FC00001", "FFC00000", "7F800001", "FFBFFFFF", "3F800000", "BF800000", "33800000"]
 NOT_FINITE = ["7FF0000000000000", "FFF0000000000000", "7FF8000000000000", "7FF0000000000001"]
+LARGEST_RESULT = 262000  # words of a conversion; our replay has room for 262,144
 BAD_LINES = ["", "b", "Z ", "B", "S", "L 2", "L", "T 0", "Q", "W 00000000", "R", "R 48000", "KF 1 1", " Z", "X 0", "P",
              "E 3ff0000000000000", "C 1 1 473b8000", "L  1", "V 1 1 473B8000", "J 1 1 473B8000 1 1", "B 0 0 0"]
 
@@ -247,6 +248,8 @@ class Generator:
             elif r < 0.5:
                 n = rng.choice([n, 147, 160, 294, 441])
                 rate, other = rng.choice([(44100.0, 48000.0), (48000.0, 44100.0), (24000.0, 48000.0), (48000.0, 24000.0)])
+            if 1 < c <= 32 and c * n * other / rate > LARGEST_RESULT:
+                c = 1
             head, count = f"Q {c} {n} {x32(rate)} {x32(other)}", c * n
         return head + (self.words(count) if 1 <= c <= 32 else "")
 

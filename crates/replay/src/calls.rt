@@ -24,7 +24,8 @@ const UNTOUCHED: u32 = 0xdead_beef;
 
 const COPY_RATE: f32 = 48_000.0;
 
-const LEN_MAX: usize = 16_777_216;
+// The room for a copy's destination; the protocol allows 16,777,216.
+const LEN_MAX: usize = 262_144;
 
 // The words of a shape; 0 where it is outside the limits, which `is_valid` tells.
 fn size(shape: Shape) -> usize

@@ -1,184 +1,131 @@
-use mathlib.Core.Path.{_≡_, sym}
-use Prim.Native.Nat.{_+_, _-_, _*_, _≤_, _<_}
+-- `replay::calls::complete` is safe and ends. Assumes nothing.
+use mathlib.Core.Path.{sym}
 use native.Mathlib.Omega.{arith}
-use lib.ListN.{length, length-set}
 use lib.Seq.{length-take-le}
 use borrow.Author.Needs.{needs}
 use Rattle.replay.proofs.calls.complete.Statement.{statement}
 use Rattle.replay.proofs.calls.complete.Tie as tie
-use Rattle.replay.proofs.calls.complete.Reads as reads
-use Rattle.replay.proofs.calls.complete.Lts as lts
-use Rattle.replay.proofs.calls.converted.Reads as converted-reads
-use Rattle.replay.proofs.calls.copy_from.Reads as copy-from-reads
-use Rattle.replay.proofs.calls.copy_to.Reads as copy-to-reads
-use Rattle.replay.proofs.calls.extended.Reads as extended-reads
-use Rattle.replay.proofs.calls.give_clip.Reads as give-clip-reads
-use Rattle.replay.proofs.calls.parted.Reads as parted-reads
-use Rattle.replay.proofs.calls.size.Reads as size-reads
-use Rattle.replay.proofs.machine.Machine.without_call.Reads as without-call-reads
-use Rattle.replay.proofs.scan.smaller.Reads as smaller-reads
 
--- src/calls.rt:381:9
 without-call-requires : tie.Need-without-call-requires
 without-call-requires c κs = search needs
 
--- src/calls.rt:383:26
 enum-told : tie.Need-enum-told
 enum-told c = search needs
 
--- src/calls.rt:384:20
 enum-known-call : tie.Need-enum-known-call
 enum-known-call c = search needs
 
--- src/calls.rt:384:30
 give-clip-requires : tie.Need-give-clip-requires
 give-clip-requires c κs = search needs
 
--- src/calls.rt:385:24
 enum-known-call-2 : tie.Need-enum-known-call-2
 enum-known-call-2 c = search needs
 
--- src/calls.rt:386:17
 smaller-requires : tie.Need-smaller-requires
 smaller-requires c κs = search needs
 
--- src/calls.rt:387:43
 slice-relend-prefix-copy-from : tie.Need-slice-relend-prefix-copy-from
 slice-relend-prefix-copy-from c = search needs
 
--- src/calls.rt:387:43
 slice-aggregate-copy-from : tie.Need-slice-aggregate-copy-from
 slice-aggregate-copy-from c = sym (length-take-le _ _ (omega arith))
 
--- src/calls.rt:387:13
 copy-from-requires : tie.Need-copy-from-requires
 copy-from-requires c κs = search needs
 
--- src/calls.rt:389:22
 enum-known-call-3 : tie.Need-enum-known-call-3
 enum-known-call-3 c = search needs
 
--- src/calls.rt:390:29
 size-requires : tie.Need-size-requires
 size-requires c κs = search needs
 
--- src/calls.rt:390:17
 smaller-requires-2 : tie.Need-smaller-requires-2
 smaller-requires-2 c κs = search needs
 
--- src/calls.rt:391:41
 slice-relend-prefix-copy-to : tie.Need-slice-relend-prefix-copy-to
 slice-relend-prefix-copy-to c = search needs
 
--- src/calls.rt:391:41
 slice-aggregate-copy-to : tie.Need-slice-aggregate-copy-to
 slice-aggregate-copy-to c = sym (length-take-le _ _ (omega arith))
 
--- src/calls.rt:391:13
 copy-to-requires : tie.Need-copy-to-requires
 copy-to-requires c κs = search needs
 
--- src/calls.rt:393:22
 enum-known-call-4 : tie.Need-enum-known-call-4
 enum-known-call-4 c = search needs
 
--- src/calls.rt:393:31
 extended-requires : tie.Need-extended-requires
 extended-requires c κs = search needs
 
--- src/calls.rt:394:21
 enum-known-call-5 : tie.Need-enum-known-call-5
 enum-known-call-5 c = search needs
 
--- src/calls.rt:394:38
 parted-requires : tie.Need-parted-requires
 parted-requires c κs = search needs
 
--- src/calls.rt:395:23
 enum-known-call-6 : tie.Need-enum-known-call-6
 enum-known-call-6 c = search needs
 
--- src/calls.rt:395:39
 converted-requires : tie.Need-converted-requires
 converted-requires c κs = search needs
 
--- src/calls.rt:372:1
 returns : tie.Need-returns
 returns c = search needs
 
--- src/calls.rt:372:1
 same-length : tie.Need-same-length
 same-length c = search needs
 
--- src/calls.rt:372:1
 same-length-2 : tie.Need-same-length-2
 same-length-2 c = search needs
 
--- src/calls.rt:372:1
 returns-2 : tie.Need-returns-2
 returns-2 c = search needs
 
--- src/calls.rt:372:1
 same-length-3 : tie.Need-same-length-3
 same-length-3 c = search needs
 
--- src/calls.rt:372:1
 same-length-4 : tie.Need-same-length-4
 same-length-4 c = search needs
 
--- src/calls.rt:372:1
 returns-3 : tie.Need-returns-3
 returns-3 c = search needs
 
--- src/calls.rt:372:1
 same-length-5 : tie.Need-same-length-5
 same-length-5 c = search needs
 
--- src/calls.rt:372:1
 same-length-6 : tie.Need-same-length-6
 same-length-6 c = search needs
 
--- src/calls.rt:372:1
 returns-4 : tie.Need-returns-4
 returns-4 c = search needs
 
--- src/calls.rt:372:1
 same-length-7 : tie.Need-same-length-7
 same-length-7 c = search needs
 
--- src/calls.rt:372:1
 same-length-8 : tie.Need-same-length-8
 same-length-8 c = search needs
 
--- src/calls.rt:372:1
 returns-5 : tie.Need-returns-5
 returns-5 c = search needs
 
--- src/calls.rt:372:1
 same-length-9 : tie.Need-same-length-9
 same-length-9 c = search needs
 
--- src/calls.rt:372:1
 same-length-10 : tie.Need-same-length-10
 same-length-10 c = search needs
 
--- src/calls.rt:372:1
 same-length-11 : tie.Need-same-length-11
 same-length-11 c = search needs
 
--- src/calls.rt:372:1
 returns-6 : tie.Need-returns-6
 returns-6 c = search needs
 
--- src/calls.rt:372:1
 same-length-12 : tie.Need-same-length-12
 same-length-12 c = search needs
 
--- src/calls.rt:372:1
 same-length-13 : tie.Need-same-length-13
 same-length-13 c = search needs
 
--- src/calls.rt:372:1
 returns-7 : tie.Need-returns-7
 returns-7 c = search needs
 

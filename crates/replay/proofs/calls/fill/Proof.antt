@@ -1,13 +1,10 @@
-use mathlib.Core.Path.{_≡_, sym}
-use Prim.Native.Nat.{_+_, _-_, _*_, _≤_, _<_}
-use native.Mathlib.Omega.{arith}
-use lib.ListN.{length, length-set}
-use lib.Seq.{length-take-le}
+-- `replay::calls::fill` is safe and ends. The invariant bounds what is read and keeps the lengths of what is lent. Assumes nothing.
+use mathlib.Core.Path.{_≡_}
+use Prim.Native.Nat.{_-_, _≤_}
+use lib.ListN.{length}
 use borrow.Author.Needs.{needs}
 use Rattle.replay.proofs.calls.fill.Statement.{statement}
 use Rattle.replay.proofs.calls.fill.Tie as tie
-use Rattle.replay.proofs.calls.fill.Reads as reads
-use Rattle.replay.proofs.calls.fill.Lts as lts
 
 abbrev Inv-loop : tie.InvT-loop
 Inv-loop to₀ word i₀ to i = (i ≤ length to₀) × (length to ≡ length to₀)
@@ -15,35 +12,27 @@ Inv-loop to₀ word i₀ to i = (i ≤ length to₀) × (length to ≡ length to
 abbrev μ-loop : tie.MeasureT-loop
 μ-loop to₀ word i₀ to i = length to₀ - i
 
--- src/calls.rt:204:5
 loop-holds : tie.Need-loop-holds Inv-loop μ-loop
 loop-holds c = search needs
 
--- src/calls.rt:205:9
 mul-to : tie.Need-mul-to Inv-loop μ-loop
 mul-to c = search needs
 
--- src/calls.rt:205:9
 slice-write-to : tie.Need-slice-write-to Inv-loop μ-loop
 slice-write-to c = search needs
 
--- src/calls.rt:206:9
 add-i : tie.Need-add-i Inv-loop μ-loop
 add-i c = search needs
 
--- src/calls.rt:204:5
 loop-less : tie.Need-loop-less Inv-loop μ-loop
 loop-less c = search needs
 
--- src/calls.rt:204:5
 loop-again : tie.Need-loop-again Inv-loop μ-loop
 loop-again c = search needs
 
--- src/calls.rt:202:1
 same-length : tie.Need-same-length Inv-loop μ-loop
 same-length c = search needs
 
--- src/calls.rt:202:1
 returns : tie.Need-returns Inv-loop μ-loop
 returns c = search needs
 

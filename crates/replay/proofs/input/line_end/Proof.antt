@@ -1,13 +1,9 @@
-use mathlib.Core.Path.{_≡_, sym}
-use Prim.Native.Nat.{_+_, _-_, _*_, _≤_, _<_}
-use native.Mathlib.Omega.{arith}
-use lib.ListN.{length, length-set}
-use lib.Seq.{length-take-le}
+-- `replay::input::line_end` is safe and ends and meets its contract. The invariant bounds what is read and keeps the lengths of what is lent. Assumes nothing.
+use Prim.Native.Nat.{_-_, _≤_}
+use lib.ListN.{length}
 use borrow.Author.Needs.{needs}
 use Rattle.replay.proofs.input.line_end.Statement.{statement}
 use Rattle.replay.proofs.input.line_end.Tie as tie
-use Rattle.replay.proofs.input.line_end.Reads as reads
-use Rattle.replay.proofs.input.line_end.Lts as lts
 
 abbrev Inv-loop : tie.InvT-loop
 Inv-loop piece at i₀ i = (at ≤ i) × (i ≤ length piece)
@@ -15,31 +11,24 @@ Inv-loop piece at i₀ i = (at ≤ i) × (i ≤ length piece)
 abbrev μ-loop : tie.MeasureT-loop
 μ-loop piece at i₀ i = length piece - i
 
--- src/input.rt:118:5
 loop-holds : tie.Need-loop-holds Inv-loop μ-loop
 loop-holds c = search needs
 
--- src/input.rt:119:12
 shared-slice-read-if1 : tie.Need-shared-slice-read-if1 Inv-loop μ-loop
 shared-slice-read-if1 c = search needs
 
--- src/input.rt:120:13
 returns : tie.Need-returns Inv-loop μ-loop
 returns c = search needs
 
--- src/input.rt:122:9
 add-i : tie.Need-add-i Inv-loop μ-loop
 add-i c = search needs
 
--- src/input.rt:118:5
 loop-less : tie.Need-loop-less Inv-loop μ-loop
 loop-less c = search needs
 
--- src/input.rt:118:5
 loop-again : tie.Need-loop-again Inv-loop μ-loop
 loop-again c = search needs
 
--- src/input.rt:113:1
 returns-2 : tie.Need-returns-2 Inv-loop μ-loop
 returns-2 c = search needs
 

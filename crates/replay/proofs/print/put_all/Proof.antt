@@ -1,14 +1,10 @@
-use mathlib.Core.Path.{_≡_, sym}
-use Prim.Native.Nat.{_+_, _-_, _*_, _≤_, _<_}
-use native.Mathlib.Omega.{arith}
-use lib.ListN.{length, length-set}
-use lib.Seq.{length-take-le}
+-- `replay::print::put_all` is safe and ends. The invariant bounds what is read and keeps the lengths of what is lent. Assumes nothing.
+use mathlib.Core.Path.{_≡_}
+use Prim.Native.Nat.{_-_, _≤_}
+use lib.ListN.{length}
 use borrow.Author.Needs.{needs}
 use Rattle.replay.proofs.print.put_all.Statement.{statement}
 use Rattle.replay.proofs.print.put_all.Tie as tie
-use Rattle.replay.proofs.print.put_all.Reads as reads
-use Rattle.replay.proofs.print.put_all.Lts as lts
-use Rattle.replay.proofs.print.put.Reads as put-reads
 
 abbrev Inv-loop : tie.InvT-loop
 Inv-loop text₀ start bytes at₀ i₀ text at i = (i ≤ length bytes) × (length text ≡ length text₀)
@@ -16,35 +12,27 @@ Inv-loop text₀ start bytes at₀ i₀ text at i = (i ≤ length bytes) × (len
 abbrev μ-loop : tie.MeasureT-loop
 μ-loop text₀ start bytes at₀ i₀ text at i = length bytes - i
 
--- src/print.rt:31:5
 loop-holds : tie.Need-loop-holds Inv-loop μ-loop
 loop-holds c = search needs
 
--- src/print.rt:32:28
 shared-slice-read-put : tie.Need-shared-slice-read-put Inv-loop μ-loop
 shared-slice-read-put c = search needs
 
--- src/print.rt:32:9
 put-requires : tie.Need-put-requires Inv-loop μ-loop
 put-requires c κs = search needs
 
--- src/print.rt:33:9
 add-i : tie.Need-add-i Inv-loop μ-loop
 add-i c = search needs
 
--- src/print.rt:31:5
 loop-less : tie.Need-loop-less Inv-loop μ-loop
 loop-less c = search needs
 
--- src/print.rt:31:5
 loop-again : tie.Need-loop-again Inv-loop μ-loop
 loop-again c = search needs
 
--- src/print.rt:28:1
 same-length : tie.Need-same-length Inv-loop μ-loop
 same-length c = search needs
 
--- src/print.rt:28:1
 returns : tie.Need-returns Inv-loop μ-loop
 returns c = search needs
 

@@ -1,13 +1,9 @@
-use mathlib.Core.Path.{_≡_, sym}
-use Prim.Native.Nat.{_+_, _-_, _*_, _≤_, _<_}
-use native.Mathlib.Omega.{arith}
-use lib.ListN.{length, length-set}
-use lib.Seq.{length-take-le}
+-- `replay::print::run_end` is safe and ends and meets its contract. The invariant bounds what is read and keeps the lengths of what is lent. Assumes nothing.
+use Prim.Native.Nat.{_-_, _≤_, _<_}
+use lib.ListN.{length}
 use borrow.Author.Needs.{needs}
 use Rattle.replay.proofs.print.run_end.Statement.{statement}
 use Rattle.replay.proofs.print.run_end.Tie as tie
-use Rattle.replay.proofs.print.run_end.Reads as reads
-use Rattle.replay.proofs.print.run_end.Lts as lts
 
 abbrev Inv-loop : tie.InvT-loop
 Inv-loop words first bits i₀ i = (first < i) × (i ≤ length words)
@@ -15,47 +11,36 @@ Inv-loop words first bits i₀ i = (first < i) × (i ≤ length words)
 abbrev μ-loop : tie.MeasureT-loop
 μ-loop words first bits i₀ i = length words - i
 
--- src/print.rt:126:16
 mul-bits : tie.Need-mul-bits Inv-loop μ-loop
 mul-bits c = search needs
 
--- src/print.rt:126:16
 shared-slice-read-bits : tie.Need-shared-slice-read-bits Inv-loop μ-loop
 shared-slice-read-bits c = search needs
 
--- src/print.rt:127:17
 add-i : tie.Need-add-i Inv-loop μ-loop
 add-i c = search needs
 
--- src/print.rt:128:5
 loop-holds : tie.Need-loop-holds Inv-loop μ-loop
 loop-holds c = search needs
 
--- src/print.rt:129:12
 mul-if1 : tie.Need-mul-if1 Inv-loop μ-loop
 mul-if1 c = search needs
 
--- src/print.rt:129:12
 shared-slice-read-if1 : tie.Need-shared-slice-read-if1 Inv-loop μ-loop
 shared-slice-read-if1 c = search needs
 
--- src/print.rt:130:13
 returns : tie.Need-returns Inv-loop μ-loop
 returns c = search needs
 
--- src/print.rt:132:9
 add-i-2 : tie.Need-add-i-2 Inv-loop μ-loop
 add-i-2 c = search needs
 
--- src/print.rt:128:5
 loop-less : tie.Need-loop-less Inv-loop μ-loop
 loop-less c = search needs
 
--- src/print.rt:128:5
 loop-again : tie.Need-loop-again Inv-loop μ-loop
 loop-again c = search needs
 
--- src/print.rt:122:1
 returns-2 : tie.Need-returns-2 Inv-loop μ-loop
 returns-2 c = search needs
 

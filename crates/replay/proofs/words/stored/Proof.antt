@@ -1,18 +1,10 @@
-use mathlib.Core.Path.{_≡_, sym}
-use Prim.Native.Nat.{_+_, _-_, _*_, _≤_, _<_}
-use native.Mathlib.Omega.{arith}
-use lib.ListN.{length, length-set}
-use lib.Seq.{length-take-le}
+-- `replay::words::stored` is safe and ends. The invariant bounds what is read and keeps the lengths of what is lent. Assumes nothing.
+use mathlib.Core.Path.{_≡_}
+use Prim.Native.Nat.{_-_, _≤_}
+use lib.ListN.{length}
 use borrow.Author.Needs.{needs}
 use Rattle.replay.proofs.words.stored.Statement.{statement}
 use Rattle.replay.proofs.words.stored.Tie as tie
-use Rattle.replay.proofs.words.stored.Reads as reads
-use Rattle.replay.proofs.words.stored.Lts as lts
-use Rattle.replay.proofs.scan.bits_of.Reads as bits-of-reads
-use Rattle.replay.proofs.scan.byte.Reads as byte-reads
-use Rattle.replay.proofs.scan.ends.Reads as ends-reads
-use Rattle.replay.proofs.scan.hex.Reads as hex-reads
-use Rattle.replay.proofs.scan.start.Reads as start-reads
 
 abbrev Inv-loop : tie.InvT-loop
 Inv-loop line room₀ read₀ i₀ room read i = (i ≤ length room₀) × (length room ≡ length room₀)
@@ -20,75 +12,57 @@ Inv-loop line room₀ read₀ i₀ room read i = (i ≤ length room₀) × (leng
 abbrev μ-loop : tie.MeasureT-loop
 μ-loop line room₀ read₀ i₀ room read i = length room₀ - i
 
--- src/words.rt:12:8
 byte-requires : tie.Need-byte-requires Inv-loop μ-loop
 byte-requires c κs = search needs
 
--- src/words.rt:13:9
 returns : tie.Need-returns Inv-loop μ-loop
 returns c = search needs
 
--- src/words.rt:15:9
 start-requires : tie.Need-start-requires Inv-loop μ-loop
 start-requires c κs = search needs
 
--- src/words.rt:17:5
 loop-holds : tie.Need-loop-holds Inv-loop μ-loop
 loop-holds c = search needs
 
--- src/words.rt:18:9
 hex-requires : tie.Need-hex-requires Inv-loop μ-loop
 hex-requires c κs = search needs
 
--- src/words.rt:20:13
 same-length : tie.Need-same-length Inv-loop μ-loop
 same-length c = search needs
 
--- src/words.rt:20:13
 returns-2 : tie.Need-returns-2 Inv-loop μ-loop
 returns-2 c = search needs
 
--- src/words.rt:22:19
 bits-of-requires : tie.Need-bits-of-requires Inv-loop μ-loop
 bits-of-requires c κs = search needs
 
--- src/words.rt:22:9
 mul-room : tie.Need-mul-room Inv-loop μ-loop
 mul-room c = search needs
 
--- src/words.rt:22:9
 slice-write-room : tie.Need-slice-write-room Inv-loop μ-loop
 slice-write-room c = search needs
 
--- src/words.rt:23:9
 add-i : tie.Need-add-i Inv-loop μ-loop
 add-i c = search needs
 
--- src/words.rt:24:12
 ends-requires : tie.Need-ends-requires Inv-loop μ-loop
 ends-requires c κs = search needs
 
--- src/words.rt:25:13
 same-length-2 : tie.Need-same-length-2 Inv-loop μ-loop
 same-length-2 c = search needs
 
--- src/words.rt:25:13
 returns-3 : tie.Need-returns-3 Inv-loop μ-loop
 returns-3 c = search needs
 
--- src/words.rt:17:5
 loop-less : tie.Need-loop-less Inv-loop μ-loop
 loop-less c = search needs
 
--- src/words.rt:17:5
 loop-again : tie.Need-loop-again Inv-loop μ-loop
 loop-again c = search needs
 
--- src/words.rt:11:1
 same-length-3 : tie.Need-same-length-3 Inv-loop μ-loop
 same-length-3 c = search needs
 
--- src/words.rt:11:1
 returns-4 : tie.Need-returns-4 Inv-loop μ-loop
 returns-4 c = search needs
 
