@@ -9,8 +9,11 @@ use libc::STDIN_FILENO;
 use libc::STDOUT_FILENO;
 use player::Handled;
 use player::Player;
-use session::Session;
 use text::BLOCK_ROOM;
+
+mod session;
+
+use session::Session;
 
 // The bytes that are printed at a time, with room for one block's text more.
 const OUT: usize = 600_000;

@@ -1,1 +1,0 @@
--- What the contracts of `session` cite.
