@@ -6,7 +6,7 @@ use lib.Dec.{eqb, ltb}
 use lib.IntN.{pos}
 use lib.Ieee.{Float, binary32, binary64, ofInt, ofBits, toBits, add, sub, mul, div}
 use lib.ListN.{length, getD}
-use Rattle.rounding.specs.Rounding.{floor, ceil, truncate, convert}
+use Rattle.rounding.specs.Rounding.{whole, floor, ceil, truncate, convert}
 use Rattle.rounding.specs.Near.{floatEq, rateTolerance}
 use Rattle.lists.specs.Rows.{rows}
 use Rattle.lists.specs.Table.{table}
@@ -17,17 +17,13 @@ use Rattle.buffer.specs.declared.Shape.{Shape}
 use Rattle.buffer.specs.declared.Made.{Made}
 use Rattle.buffer.specs.declared.Made.the-variants.{Buffer, Refused}
 
--- a count as f64
-abbrev pub asF64 : ℕ → Float
-asF64 n = ofInt binary64 (pos n)
-
 -- 'conversion within 0.1 of the rate, or of an empty buffer, only relabels'
 unfoldable pub relabels : Shape → Float → Bool
 relabels shape rate = floatEq (shape .rate) rate rateTolerance || eqb (shape .frames) 0
 
 -- 'ceil(N × ratio) = M frames', the ratio being the target's rate over the source's
 unfoldable pub convertedLength : Shape → Float → ℕ
-convertedLength shape rate = truncate (ceil binary64 (mul binary64 (asF64 (shape .frames)) (div binary64 rate (shape .rate))))
+convertedLength shape rate = truncate (ceil binary64 (mul binary64 (whole (shape .frames)) (div binary64 rate (shape .rate))))
 
 -- rows 1 and 2 for a buffer of `len` samples and a new rate; then a relabelled shape, or rows 7 and 6 and the result's shape
 unfoldable pub convertedShape : Shape → ℕ → Float → Made
@@ -42,7 +38,7 @@ convertedShape shape len rate =
 
 -- 'frame i read at i/(M − 1) × (N − 1) in f64'
 unfoldable pub playhead : ℕ → ℕ → ℕ → Float
-playhead n m i = mul binary64 (div binary64 (asF64 i) (asF64 (m - 1))) (asF64 (n - 1))
+playhead n m i = mul binary64 (div binary64 (whole i) (whole (m - 1))) (whole (n - 1))
 
 -- the frame at or before the playhead
 unfoldable pub previous : Float → ℕ

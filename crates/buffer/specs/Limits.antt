@@ -6,6 +6,7 @@ use borrow.Author.Tests.{leb-true, eqb-true}
 use lib.Dec.{leb, eqb}
 use lib.IntN.{pos}
 use lib.Ieee.{Float, binary32, binary64, ofInt, le, div}
+use Rattle.rounding.specs.Rounding.{whole}
 
 -- the most channels of a buffer, and the most frames of a channel
 abbrev pub maxChannels : ℕ
@@ -24,7 +25,7 @@ validRate rate = le (ofInt binary32 (pos 3000)) rate && le rate (ofInt binary32 
 
 -- 'Duration is N as f64 divided by the rate as f64': every f32 is an f64 as it stands
 unfoldable pub duration : ℕ → Float → Float
-duration frames rate = div binary64 (ofInt binary64 (pos frames)) rate
+duration frames rate = div binary64 (whole frames) rate
 
 -- what a valid shape says of its numbers
 pub record Valid (channels frames len : ℕ) : Type 0 where

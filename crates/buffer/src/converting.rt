@@ -14,8 +14,8 @@ use super::frames::copy_frames;
 use super::limits::MAX_FRAMES;
 use super::limits::is_valid_sample_rate;
 use super::limits::is_valid_shape;
-use super::limits::whole;
 use super::refusals;
+use rounding::whole;
 
 // Whether a conversion changes the rate alone.
 fn only_relabels(shape: Shape, rate: f32) -> bool

@@ -29,6 +29,7 @@ pub use parting::split;
 pub use parting::split_shapes;
 
 // The channels of a buffer, the frames in each of them, and the sample rate.
+#[repr(C)]
 pub struct Shape {
     pub channels: usize,
     pub frames: usize,

@@ -1,9 +1,8 @@
 // The limits of document 01 and a buffer's duration.
 ghost use mathlib.Core.Path.{_≡_};
-ghost use lib.IntN.{pos};
-ghost use lib.Ieee.{ofInt, binary64};
 ghost use Rattle.buffer.specs.Limits.{validShape, validRate, duration};
 use super::Shape;
+use rounding::whole;
 
 pub const MAX_CHANNELS: usize = 32;
 
@@ -34,13 +33,6 @@ pub fn is_valid_sample_rate(rate: f32) -> bool
     ensures { λ r. ⌜ r ≡ validRate rate ⌝ }
 {
     MIN_SAMPLE_RATE <= rate && rate <= MAX_SAMPLE_RATE
-}
-
-// A count as an f64.
-pub(crate) fn whole(n: usize) -> f64
-    ensures { λ r. ⌜ r ≡ ofInt binary64 (pos n) ⌝ }
-{
-    std::num::nearest_u64_to_f64(n as u64)
 }
 
 // A buffer's length in seconds.

@@ -7,7 +7,8 @@ use lib.Ieee.{Float, binary64, add, mul, div, rem, lt, le, eq, ne, fits}
 use lib.Ieee.Exact.{HasValue}
 use lib.Ieee.Scale.{finite}
 use Rattle.buffer.specs.Limits.{duration}
-use Rattle.player.specs.Seconds.{none, never, one, whole, blockSeconds, instant, blockEnd}
+use Rattle.rounding.specs.Rounding.{whole}
+use Rattle.player.specs.Seconds.{none, never, one, blockSeconds, instant, blockEnd}
 use Rattle.player.specs.Aligned.{firstFrame}
 use Rattle.player.specs.Block.{latest}
 use Rattle.claims.specs.LongRun.{Reports}

@@ -11,7 +11,7 @@ use lib.Ieee.Positive.{num, den, den-pos}
 use lib.Ieee.Exact.{HasValue}
 use lib.Ieee.Scale.{finite}
 use borrow.Author.Tests.{ltb-true, ltb-false, leb-true, leb-false, eqb-true, le-leb, lt-leb, lt-ltb, le-ltb, eq-eqb, ne-eqb}
-use Rattle.rounding.proofs.Compare.{lt-value, eq-value}
+use Rattle.rounding.proofs.Compare.{lt-value, eq-value, le-or}
 use Rattle.rounding.proofs.Sum.{and-true}
 use Rattle.rounding.proofs.Words.{ltb-same}
 
@@ -114,17 +114,6 @@ eq-test D N P (fin s m e) (inf false) k l h g = let i = inside s N (h .0) k (h .
 eq-test D N P (fin s m e) (fin t n d) k l h g =
     eq-value (fin s m e) (fin t n d) s t (h .0) D (g .0) D P P (h .1) (g .1) ∙ level-test D N P s t (h .0) (g .0) k l (h .3) (g .3)
 
-or-test : (k l : ℕ) → (ltb k l || eqb k l) ≡ leb k l
-or-test k l = same-test (ltb k l || eqb k l) (leb k l) (λ h. le-leb k l (there (ltb k l) (ltb-true k l) h)) (λ h. back (eq-or-lt-of-le (leb-true k l h)))
-  where
-    there : (p : Bool) → (p ≡ true → k < l) → (p || eqb k l) ≡ true → k ≤ l
-    there true i e = le-of-lt (i refl)
-    there false i e = le-of-eq (eqb-true k l e)
-
-    back : (k ≡ l) ⊎ (k < l) → (ltb k l || eqb k l) ≡ true
-    back (inl i) = ap₂ (λ (p q : Bool). p || q) (le-ltb k l (le-of-eq (sym i))) (eq-eqb k l i)
-    back (inr i) = ap (λ (p : Bool). p || eqb k l) (lt-ltb k l i)
-
 record Ranked (x y : Float) (k l : ℕ) : Type 0 where
   less : lt x y ≡ ltb k l
   same : eq x y ≡ eqb k l
@@ -135,7 +124,7 @@ unfolding le
 ranked D N P x y k l h g =
     let p = lt-test D N P x y k l h g in
     let q = eq-test D N P x y k l h g in
-    record { less = p; same = q; most = ap₂ (λ (u v : Bool). u || v) p q ∙ or-test k l }
+    record { less = p; same = q; most = ap₂ (λ (u v : Bool). u || v) p q ∙ le-or k l }
 
 -- ---- three numbers, none of them a NaN, on one scale
 own : (a D w d : ℕ) → D ≡ d * w → a * D ≡ a * w * d

@@ -25,7 +25,8 @@ use Rattle.claims.specs.LongRun.{Reports}
 use Rattle.claims.proofs.Order.{lt-asym, lt-not-le, lt-le, lt-irrefl, ne-irrefl, value-finite}
 use Rattle.claims.proofs.Units.{none-value, none-units, block-lasts, by-one, roughly, rate-pos, quotient-fine}
 use Rattle.buffer.specs.Limits.{duration}
-use Rattle.player.specs.Seconds.{none, never, one, whole, blockSeconds}
+use Rattle.rounding.specs.Rounding.{whole}
+use Rattle.player.specs.Seconds.{none, never, one, blockSeconds}
 
 -- x seconds at the rate r, which is R of binary32's units, are a frames within j times 2 ^ -28 frame: counted in whole multiples of 2 ^ -1223
 pub record Frames (r x : Float) (R j a : ℕ) : Type 0 where

@@ -12,7 +12,8 @@ use lib.ListN.{getD, length, take, drop, length-take, List·getD-eq-default}
 use lib.Ieee.{Float, binary64, add, div, rem, lt}
 use lib.Ieee.Exact.{HasValue}
 use Rattle.buffer.specs.Limits.{duration}
-use Rattle.player.specs.Seconds.{whole, blockSeconds, none}
+use Rattle.rounding.specs.Rounding.{whole}
+use Rattle.player.specs.Seconds.{blockSeconds, none}
 use Rattle.player.specs.Aligned.{firstFrame, endsWithin, played, nextFrame, alignedSample, lastWrap, alignedPosition}
 use Rattle.player.specs.declared.Wrap.{Wrap}
 use Rattle.player.specs.declared.Wrap.the-variants.{Never, At}

@@ -15,7 +15,8 @@ use Rattle.rounding.specs.Laws.{Within, Rounded}
 use Rattle.rounding.proofs.Operations.{div-near}
 use Rattle.rounding.proofs.Exact.{Significand, significand, two-values, mul-pow, whole-exact}
 use Rattle.buffer.specs.Limits.{validRate}
-use Rattle.player.specs.Seconds.{none, one, whole, dt, blockSeconds}
+use Rattle.rounding.specs.Rounding.{whole}
+use Rattle.player.specs.Seconds.{none, one, dt, blockSeconds}
 
 pub one-value : HasValue one false 1 1
 unfolding ofBits

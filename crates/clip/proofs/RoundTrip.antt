@@ -9,12 +9,12 @@ use lib.Dec.{T, eqb, leb, leb→le, nleb→lt, lit<}
 use lib.ListN.{length, getD, drop, length-append, length-drop, List·getD-eq-default, drop-of-length-le}
 use lib.Seq.{drop-drop, drop-append-add}
 use borrow.Author.Tests.{leb-true, eqb-true, le-leb, eq-eqb}
-use Rattle.lists.specs.Table.{table, length-table, getD-table, table-getD}
+use Rattle.lists.specs.Table.{table, length-table, getD-table, table-same, table-getD}
 use Rattle.clip.specs.Layout.{bytes, words, headerLength, offset, fileLength, layout}
 use Rattle.clip.specs.Reading.{number, numberAt, channelsField, framesField, rateField, offsetField, framesFrom, offsetsMatch, isLayout}
 use Rattle.clip.specs.Statement.{Below, IsClip, Sound, Complete}
 use Rattle.clip.proofs.Numbers.{length-bytes, skip, below-drop, number-bytes, number-lt, bytes-number}
-use Rattle.clip.proofs.Words.{table-same, length-words, word-at, words-numbers}
+use Rattle.clip.proofs.Words.{length-words, word-at, words-numbers}
 use Rattle.clip.proofs.Each.{both, split, each-at, each-all}
 
 -- a field's bytes stand at its place

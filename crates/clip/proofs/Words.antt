@@ -6,17 +6,11 @@ use native.Mathlib.Nat.{le-of-suc-le-suc, not-suc-le-zero, mul-suc, add-zero}
 use native.Mathlib.Omega.{arith}
 use lib.ListN.{length, getD, drop, length-append, length-drop}
 use lib.Seq.{drop-drop}
-use Rattle.lists.specs.Table.{table, table-getD}
+use Rattle.lists.specs.Table.{table, table-same, table-getD}
 use Rattle.clip.specs.Layout.{bytes, words}
 use Rattle.clip.specs.Reading.{number}
 use Rattle.clip.specs.Statement.{Below}
 use Rattle.clip.proofs.Numbers.{length-bytes, skip, below-drop, number-bytes, bytes-number}
-
--- a table by two functions that agree
-pub table-same : (n : ℕ) (f g : ℕ → ℕ) → ((k : ℕ) → k < n → f k ≡ g k) → table n f ≡ table n g
-unfolding table
-table-same zero f g h = refl
-table-same (suc n) f g h = rw (h zero (omega arith)) (ap (λ (r : List ℕ). g zero ∷ r) (table-same n (λ i. f (suc i)) (λ i. g (suc i)) (λ k l. h (suc k) (omega arith))))
 
 pub length-words : (ws : List ℕ) → length (words ws) ≡ 4 * length ws
 unfolding words

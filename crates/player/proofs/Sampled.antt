@@ -1,17 +1,25 @@
 -- A sub-sample block's output by its three arrays is the output by its infos. Assumes nothing.
-use mathlib.Core.Path.{_≡_}
+use mathlib.Core.Path.{_≡_, refl}
 use mathlib.Core.Bool.{false}
 use mathlib.Core.List.{List}
-use Prim.Native.Nat.{ℕ, _<_}
+use Prim.Native.Nat.{ℕ, zero, suc, _<_}
 use lib.Ieee.{nan}
-use Rattle.lists.specs.Table.{table, getD-table}
-use Rattle.player.proofs.Tables.{written-same}
+use Rattle.lists.specs.Table.{table, table-same, getD-table}
+use Rattle.buffer.specs.Channels.{channel}
 use Rattle.player.specs.declared.Settings.{Settings}
 use Rattle.player.specs.declared.Playhead.{Playhead}
 use Rattle.player.specs.declared.Infos.{Infos}
 use Rattle.player.specs.SubSample.{infoOfSample, headAt, sampleOf}
 use Rattle.player.specs.Infos.{infoIn, infosOf, sampleBy}
 use Rattle.player.specs.Block.{written}
+
+-- by two functions that agree below the block's length
+written-same : (n : ℕ) (f g : List ℕ → ℕ → ℕ) (frames : ℕ) (samples out : List ℕ) (count : ℕ)
+    → ((l : List ℕ) (i : ℕ) → i < n → f l i ≡ g l i) → written n f frames samples out count ≡ written n g frames samples out count
+unfolding written
+written-same n f g frames samples out zero h = refl
+written-same n f g frames samples out (suc c) h =
+    rw (table-same n (f (channel samples frames c)) (g (channel samples frames c)) (h (channel samples frames c)), written-same n f g frames samples out c h)
 
 module _ (s : Settings) (h : Playhead) where
   sample-by : (l : List ℕ) (i : ℕ) → i < 128

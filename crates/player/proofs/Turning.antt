@@ -9,8 +9,7 @@ use borrow.Author.Tests.{leb-true, leb-false}
 use lib.Dec.{leb}
 use lib.ListN.{length, getD, List·getD-eq-default}
 use Rattle.player.specs.Aligned.{played, nextFrame, alignedSample, lastWrap}
-use Rattle.lists.specs.Table.{table}
-use Rattle.player.proofs.Tables.{table-same}
+use Rattle.lists.specs.Table.{table, table-same}
 use Rattle.player.specs.declared.Wrap.{Wrap}
 use Rattle.player.specs.declared.Wrap.the-variants.{Never, At}
 

@@ -6,8 +6,8 @@ use Prim.Native.Nat.{ℕ, zero, suc, _-_}
 use lib.Dec.{leb}
 use lib.ListN.{getD}
 use lib.Ieee.{Float, binary64, add, mul, div, rem, lt, toUnsigned}
-use Rattle.rounding.specs.Rounding.{roundAway}
-use Rattle.player.specs.Seconds.{whole, blockSeconds}
+use Rattle.rounding.specs.Rounding.{whole, roundAway}
+use Rattle.player.specs.Seconds.{blockSeconds}
 use Rattle.player.specs.declared.Wrap.{Wrap}
 use Rattle.player.specs.declared.Wrap.the-variants.{Never, At}
 

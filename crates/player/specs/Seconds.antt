@@ -1,7 +1,7 @@
 -- Seconds, and the instants of a block (document 01, 'Messages' and 'Aligned block'). Definitions only.
 use Prim.Native.Nat.{ℕ}
-use lib.IntN.{pos}
-use lib.Ieee.{Float, binary64, ofBits, ofInt, add, mul, div}
+use lib.Ieee.{Float, binary64, ofBits, add, mul, div}
+use Rattle.rounding.specs.Rounding.{whole}
 use Rattle.player.specs.declared.ContextSeconds.{ContextSeconds}
 use Rattle.player.specs.declared.BufferSeconds.{BufferSeconds}
 
@@ -20,10 +20,6 @@ none = ofBits binary64 0
 
 abbrev pub one : Float
 one = ofBits binary64 0x3ff0_0000_0000_0000
-
--- a whole number as an f64
-abbrev pub whole : ℕ → Float
-whole n = ofInt binary64 (pos n)
 
 -- the seconds from one sample to the next at r samples in a second
 unfoldable pub dt : Float → Float

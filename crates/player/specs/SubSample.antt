@@ -5,9 +5,9 @@ use Prim.Native.Nat.{ℕ, zero, suc, _+_, _-_, min}
 use lib.Dec.{ltb, eqb}
 use lib.ListN.{getD}
 use lib.Ieee.{Float, binary64, ofBits, add, sub, mul, lt, le, eq, toUnsigned}
-use Rattle.rounding.specs.Rounding.{magnitude, floor, fma, widen, narrow, remEuclid}
+use Rattle.rounding.specs.Rounding.{whole, magnitude, floor, fma, widen, narrow, remEuclid}
 use Rattle.player.specs.Near.{isNear, isNearZero}
-use Rattle.player.specs.Seconds.{context, inClip, none, one, whole}
+use Rattle.player.specs.Seconds.{context, inClip, none, one}
 use Rattle.player.specs.declared.Settings.{Settings}
 use Rattle.player.specs.declared.Playhead.{Playhead}
 use Rattle.player.specs.declared.PlaybackInfo.{PlaybackInfo}
@@ -100,10 +100,10 @@ playhead s x = mul binary64 (mul binary64 x (s .«sampling_ratio»)) (s .«sampl
 
 unfoldable pub infoAt : Settings → Float → PlaybackInfo
 infoAt s x =
-    let whole = floor binary64 (playhead s x) in
-    let frame = toUnsigned 64 whole in
+    let floored = floor binary64 (playhead s x) in
+    let frame = toUnsigned 64 floored in
     cond (le none x && lt x (s .«buffer_duration» .0) && ltb frame (s .«buffer_length»))
-    (infoOf true frame (sub binary64 (playhead s x) whole))
+    (infoOf true frame (sub binary64 (playhead s x) floored))
     (infoOf false 0 none)
 
 -- ---- on to the next sample

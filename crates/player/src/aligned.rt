@@ -11,10 +11,10 @@ use super::Wrap;
 use super::frames::frame_or_zero;
 use super::frames::smaller;
 use super::seconds::block_seconds;
-use super::seconds::whole;
 use super::seconds::widened;
 use rounding::round_away;
 use rounding::truncate;
+use rounding::whole;
 
 // The frame at a position, rounded.
 pub fn first_frame(position: f64, rate: f32) -> usize

@@ -15,14 +15,17 @@ mod sub_sample;
 use buffer::Shape;
 
 // Seconds of the context's clock.
+#[repr(C)]
 pub struct ContextSeconds(pub f64);
 
 // Seconds within the clip.
+#[repr(C)]
 pub struct BufferSeconds(pub f64);
 
 // A frame of the clip, counted from 0.
 pub struct FrameNumber(pub usize);
 
+#[repr(C)]
 pub struct LoopState {
     pub is_looping: bool,
     pub start: BufferSeconds,
@@ -30,6 +33,7 @@ pub struct LoopState {
 }
 
 // What a block moves on, beside the start time and the offset.
+#[repr(C)]
 pub struct RenderState {
     pub buffer_time: BufferSeconds,
     pub started: bool,
@@ -39,6 +43,7 @@ pub struct RenderState {
     pub ended: bool,
 }
 
+#[repr(C)]
 pub struct Player {
     pub sample_rate: f32,
     pub start_time: ContextSeconds,

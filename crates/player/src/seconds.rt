@@ -1,16 +1,9 @@
 // Seconds, and the instants of a block of 128 samples. Rates are those of the output.
 ghost use mathlib.Core.Path.{_≡_};
-ghost use Rattle.player.specs.Seconds.{whole, dt, blockSeconds, blockEnd};
+ghost use Rattle.player.specs.Seconds.{dt, blockSeconds, blockEnd};
 
 // The largest f64: a start or a stop that was not received, and no duration.
 pub const NEVER: f64 = 1.7976931348623157e308;
-
-// A whole number as an f64.
-pub fn whole(n: usize) -> f64
-    ensures { λ r. ⌜ r ≡ whole n ⌝ }
-{
-    std::num::nearest_u64_to_f64(n as u64)
-}
 
 // An f32 as an f64.
 pub fn widened(x: f32) -> f64

@@ -13,7 +13,6 @@ use super::PlaybackInfo;
 use super::Playhead;
 use super::SampleStep;
 use super::Settings;
-use super::seconds::whole;
 use rounding::NEAR_TOLERANCE;
 use rounding::floor;
 use rounding::magnitude;
@@ -21,6 +20,7 @@ use rounding::near;
 use rounding::near_zero;
 use rounding::rem_euclid;
 use rounding::truncate;
+use rounding::whole;
 
 // x, or `to` where it is near.
 fn snapped_to(x: f64, to: f64) -> f64

@@ -117,7 +117,7 @@ unfolding near
 near-self x tolerance h = simp (eq-self x h)
 
 -- ---- values that are not negative, zero included
-le-or : (a b : ℕ) → (ltb a b || eqb a b) ≡ leb a b
+pub le-or : (a b : ℕ) → (ltb a b || eqb a b) ≡ leb a b
 le-or a b = go (order a b)
   where
     other : b < a → a ≡ b → ⊥

@@ -1,13 +1,14 @@
--- The pattern without its sign's bit is that of the magnitude, in a format given as a parameter. Assumes nothing.
+-- The pattern without its sign's bit is that of the magnitude, in a format given as a parameter; and the sign of an f64's pattern in an f32's. Assumes nothing.
 use mathlib.Core.Path.{_≡_, refl, sym, ap, _∙_, subst}
-use mathlib.Core.Bool.{Bool, true, false, not}
-use Prim.Native.Nat.{ℕ, zero, suc, _+_, _*_, _%_, _<_}
+use mathlib.Core.Bool.{Bool, true, false, not, cond}
+use Prim.Native.Nat.{ℕ, zero, suc, _+_, _*_, _/_, _%_, _^_, _≤_, _<_}
 use native.Mathlib.Nat.{add-mod-left, mod-eq-of-lt}
 use native.Mathlib.Omega.{arith}
 use lib.IntN.{ℤ}
-use lib.Dec.{T}
+use lib.Dec.{T, leb, leb→le, nleb→lt}
 use lib.Ieee.{Float, nan, inf, fin, Format, binary32, binary64, top, fits, isNan, nanBits, ofBits, toBits}
 use lib.Ieee.Bits.{ofBits-toBits, toBits-lt}
+use Rattle.rounding.specs.Fields.{negative}
 use Rattle.rounding.specs.Rounding.{magnitude}
 use Rattle.rounding.proofs.Read.{no-nan-bits}
 
@@ -66,3 +67,11 @@ of-low f x h n = ap (ofBits f) (low-pattern f x h n) ∙ ofBits-toBits f (magnit
 pub of-nan : (x : Float) → x ≡ nan → x ≡ magnitude x
 unfolding magnitude
 of-nan x e = subst (λ (y : Float). y ≡ magnitude y) (sym e) refl
+
+-- the top bit of an f64's pattern, as that of an f32's
+pub sign-bit : (b : ℕ) → b < 2 ^ 64 → b / 2 ^ 63 * 0x8000_0000 ≡ cond (negative binary64 b) 0x8000_0000 0
+sign-bit b h = go (leb (2 ^ 63) b) (leb→le (2 ^ 63) b) (nleb→lt (2 ^ 63) b)
+  where
+    go : (t : Bool) → (T t → 2 ^ 63 ≤ b) → (T (not t) → b < 2 ^ 63) → b / 2 ^ 63 * 0x8000_0000 ≡ cond t 0x8000_0000 0
+    go true p q = let l = p tt in omega arith
+    go false p q = let l = q tt in omega arith

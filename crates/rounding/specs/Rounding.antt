@@ -3,7 +3,8 @@
 use Prim.Native.Nat.{ℕ, _+_, _-_, _*_, _/_}
 use mathlib.Core.Bool.{Bool, false, not, cond, Bool·beq}
 use lib.Dec.{eqb}
-use lib.Ieee.{Float, nan, inf, fin, Format, binary32, up, down, unlike, round, sum, add, rem, lt, ofBits, toBits, toUnsigned}
+use lib.IntN.{pos}
+use lib.Ieee.{Float, nan, inf, fin, Format, binary32, binary64, ofInt, up, down, unlike, round, sum, add, rem, lt, ofBits, toBits, toUnsigned}
 
 -- x as a value of the format f
 unfoldable pub convert : Format → Float → Float
@@ -17,6 +18,10 @@ narrow x = toBits binary32 (convert binary32 x)
 
 unfoldable pub widen : ℕ → Float
 widen b = ofBits binary32 b
+
+-- a whole number as an f64
+abbrev pub whole : ℕ → Float
+whole n = ofInt binary64 (pos n)
 
 -- ---- whole numbers. The sign is kept, so that -0.5 goes up to -0.
 

@@ -47,5 +47,9 @@ pub fn to_pattern_f64(x: f64) -> u64
 pub fn widen(bits: u32) -> f64
     ensures { λ r. ⌜ r ≡ widen bits ⌝ }
 {
-    std::num::f32_to_f64_with_nan(from_pattern(bits))
+    if bits % 0x8000_0000 > 0x7f80_0000 {
+        0.0 / 0.0
+    } else {
+        f32::from_bits(bits) as f64
+    }
 }

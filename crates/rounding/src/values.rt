@@ -1,7 +1,14 @@
-// What kind of value an f64 or an f32 is, and its magnitude.
+// Whole numbers as f64, what kind of value an f64 or an f32 is, and its magnitude.
 ghost use mathlib.Core.Path.{_≡_};
 ghost use lib.Ieee.Scale.{finite};
-ghost use Rattle.rounding.specs.Rounding.{magnitude, regular};
+ghost use Rattle.rounding.specs.Rounding.{magnitude, regular, whole};
+
+// A whole number as an f64.
+pub fn whole(n: usize) -> f64
+    ensures { λ r. ⌜ r ≡ whole n ⌝ }
+{
+    std::num::nearest_u64_to_f64(n as u64)
+}
 
 // Whether x is neither a NaN nor an infinity.
 pub fn is_finite(x: f64) -> bool

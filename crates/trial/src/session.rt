@@ -7,6 +7,7 @@ use player::Handled;
 use player::Player;
 use player::Rendered;
 use rounding::from_pattern_f64;
+use rounding::whole;
 use text::Command;
 use text::Printed;
 
@@ -77,7 +78,7 @@ fn block_time(number: usize, rate: f32) -> f64 {
     } else {
         128 * MAX_NUMBER
     };
-    std::num::nearest_u64_to_f64(samples as u64) / std::num::f32_to_f64_with_nan(rate)
+    whole(samples) / std::num::f32_to_f64_with_nan(rate)
 }
 
 // Renders a block into `words`, and prints it.

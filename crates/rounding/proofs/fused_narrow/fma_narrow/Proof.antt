@@ -1,17 +1,17 @@
 -- `rounding::fused_narrow::fma_narrow` meets its contract: `narrow-alike` of proofs/Twice.antt where `untied` tells. Assumes nothing.
 use mathlib.Core.Path.{_≡_, sym, ap, _∙_, subst}
 use mathlib.Core.Logic.{_⊎_, inl, inr}
-use mathlib.Core.Bool.{Bool, true, false, not, cond, false≢true}
-use Prim.Native.Nat.{ℕ, _+_, _*_, _/_, _^_, _≤_, _<_}
+use mathlib.Core.Bool.{true, not, false≢true}
+use Prim.Native.Nat.{ℕ, _+_, _*_, _/_, _^_, _<_}
 use native.Mathlib.Omega.{arith}
-use lib.Dec.{T, leb, leb→le, nleb→lt}
+use lib.Dec.{T}
 use lib.Ieee.{Float, nan, inf, fin, Format, binary64, add, mul, eq, fits, isNan, toBits}
 use lib.Ieee.Bits.{toBits-lt}
 use lib.Ieee.Fits.{add-fits}
 use borrow.Author.Needs.{needs}
 use Rattle.rounding.specs.Apart.{Apart}
-use Rattle.rounding.specs.Fields.{negative}
 use Rattle.rounding.specs.Rounding.{narrow}
+use Rattle.rounding.proofs.SignBit.{sign-bit}
 use Rattle.rounding.proofs.Twice.{narrow-alike}
 use Rattle.rounding.proofs.fused_narrow.fma_narrow.Statement.{statement}
 use Rattle.rounding.proofs.fused_narrow.fma_narrow.Tie as tie
@@ -40,13 +40,6 @@ told b r h (inr x) = x
 -- with a sign the pattern fits 32 bits
 fits-32 : (b n r : ℕ) → b < 2 ^ 64 → Apart n r → b / 2 ^ 63 * 0x8000_0000 + r < 2 ^ 32
 fits-32 b n r l h = omega (arith, h .above, h .most)
-
-sign : (b r : ℕ) → b < 2 ^ 64 → b / 2 ^ 63 * 0x8000_0000 + r ≡ cond (negative binary64 b) (2 ^ 31) 0 + r
-sign b r h = go (leb (2 ^ 63) b) (leb→le (2 ^ 63) b) (nleb→lt (2 ^ 63) b)
-  where
-    go : (t : Bool) → (T t → 2 ^ 63 ≤ b) → (T (not t) → b < 2 ^ 63) → b / 2 ^ 63 * 0x8000_0000 + r ≡ cond t (2 ^ 31) 0 + r
-    go true p q = let l = p tt in omega arith
-    go false p q = let l = q tt in omega arith
 
 -- ---- the needs
 float-to-bits-bits : tie.Need-float-to-bits-bits
@@ -94,7 +87,7 @@ returns c =
     let s = t .before in
     let h = told _ (c .before .untied .result) (c .if3 .taken) (c .before .untied .ensures) in
     let n = equals-itself _ (t .if1 .taken) in
-    sign _ _ (y-lt s) ∙ narrow-alike (s .args .a) (s .args .b) (s .args .c) (held-c s) (c .before .untied .result) (first-no-nan binary64 _ (s .args .c) n) n (c .before .before .if2 .taken) h
+    ap (λ (x : ℕ). x + c .before .untied .result) (sign-bit _ (y-lt s)) ∙ narrow-alike (s .args .a) (s .args .b) (s .args .c) (held-c s) (c .before .untied .result) (first-no-nan binary64 _ (s .args .c) n) n (c .before .before .if2 .taken) h
 
 fma-requires : tie.Need-fma-requires
 fma-requires c κs = search needs
