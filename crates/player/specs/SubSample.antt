@@ -158,10 +158,12 @@ following s channel frame k =
     (cond (s .«is_looping») (widen (getD channel (loopFrame s) 0)) (extrapolated channel frame k))
 
 -- k times the next is rounded, (1 − k) times the frame is added to it with one rounding, and the sum is narrowed to f32
+unfoldable pub between : Float → Float → Float → ℕ
+between k frame next = narrow (fma binary64 (sub binary64 one k) frame (mul binary64 k next))
+
 unfoldable pub sampleOf : Settings → List ℕ → PlaybackInfo → ℕ
 sampleOf s channel info =
     let frame = info .«prev_frame_index» .0 in
-    let k = info .k in
     cond (info .present)
-    (narrow (fma binary64 (sub binary64 one k) (widen (getD channel frame 0)) (mul binary64 k (following s channel frame k))))
+    (between (info .k) (widen (getD channel frame 0)) (following s channel frame (info .k)))
     0

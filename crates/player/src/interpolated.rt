@@ -6,7 +6,7 @@ ghost use lib.ListN.{length, getD};
 ghost use lib.Ieee.{binary64, eq, toUnsigned};
 ghost use Rattle.rounding.specs.Rounding.{floor, widen};
 ghost use Rattle.lists.specs.Table.{table};
-ghost use Rattle.player.specs.SubSample.{headAt, loopFrame, extrapolated, following, sampleOf};
+ghost use Rattle.player.specs.SubSample.{headAt, loopFrame, extrapolated, following, between, sampleOf};
 ghost use Rattle.player.specs.Infos.{infosOf, sampleBy};
 ghost use Rattle.player.specs.Block.{written};
 use super::Filled;
@@ -115,16 +115,35 @@ fn following(s: Settings, channel: &[u32], frame: usize, k: f64) -> f64
     extrapolated(channel, frame, k)
 }
 
-// A sample's bits.
+// The bits at a fraction of the way from a frame on, wherever the frame lies.
+fn sample_from(s: Settings, channel: &[u32], frame: usize, k: f64) -> u32
+    ensures { λ r. ⌜ r ≡ between k (widen (getD (now (channel .entry)) frame 0)) (following s (now (channel .entry)) frame k) ⌝ }
+{
+    let prev_sample = frame_at(channel, frame);
+    let next_sample = following(s, channel, frame, k);
+    fma_narrow(1.0 - k, prev_sample, k * next_sample)
+}
+
+// The last of n frames, or of a channel of m if that is shorter.
+fn last_of(n: usize, m: usize) -> usize
+    ensures { λ r. ⌜ r ≡ min n m - 1 ⌝ }
+{
+    one_below(smaller(n, m))
+}
+
+// A sample's bits. Before the last frame both frames are there.
 fn sample_of(s: Settings, channel: &[u32], info: PlaybackInfo) -> u32
     ensures { λ r. ⌜ r ≡ sampleOf s (now (channel .entry)) info ⌝ }
 {
     if info.present {
         let frame = info.prev_frame_index.0;
         let k = info.k;
-        let prev_sample = frame_at(channel, frame);
-        let next_sample = following(s, channel, frame, k);
-        return fma_narrow(1.0 - k, prev_sample, k * next_sample);
+        if frame < last_of(s.buffer_length, channel.len()) {
+            let prev_sample = widen(channel[frame]);
+            let next_sample = widen(channel[frame + 1]);
+            return fma_narrow(1.0 - k, prev_sample, k * next_sample);
+        }
+        return sample_from(s, channel, frame, k);
     }
     0
 }
