@@ -12,6 +12,7 @@ use player::Player;
 use player::Rendered;
 
 // The player that a message or a buffer call leaves, and the number of its refusal, 0 for none.
+#[repr(C)]
 pub struct Told {
     pub player: Player,
     pub refusal: u32,

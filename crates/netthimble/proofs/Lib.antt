@@ -1,0 +1,2 @@
+-- What the proofs of `netthimble` share.
+mod Same

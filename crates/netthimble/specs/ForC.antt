@@ -1,0 +1,75 @@
+-- The answers of the calls for C: for each case of an answer its values and 0, or the refusal's number beside zeros (document 01, 'The shape of each place': 'a definition gives this paper's number and values for each of its cases'). Definitions only.
+-- A message's and a buffer call's answer is `lent`'s `afterCall`: the player, or the same player and the number.
+use mathlib.Core.Bool.{true, false}
+use Prim.Native.Nat.{ℕ}
+use lib.Ieee.{binary32, ofBits}
+use Rattle.buffer.specs.declared.Shape.{Shape}
+use Rattle.buffer.specs.declared.Copied.{Copied}
+use Rattle.buffer.specs.declared.Copied.the-variants as copied
+use Rattle.buffer.specs.declared.Made.{Made}
+use Rattle.buffer.specs.declared.Made.the-variants as made
+use Rattle.buffer.specs.declared.Parted.{Parted}
+use Rattle.buffer.specs.declared.Parted.the-variants as parted
+use Rattle.clip.specs.declared.ClipRead.{ClipRead}
+use Rattle.clip.specs.declared.ClipRead.the-variants as clip
+use Rattle.player.specs.Seconds.{context, inClip, none}
+use Rattle.player.specs.Record.{shapeOf, loopOf, renderOf}
+use Rattle.player.specs.declared.Player.{Player}
+use Rattle.player.specs.declared.Rendered.{Rendered}
+use Rattle.player.specs.declared.Rendered.the-variants as rendered
+use Rattle.netthimble.specs.declared.Block.{Block}
+use Rattle.netthimble.specs.declared.Shaped.{Shaped}
+use Rattle.netthimble.specs.declared.Parts.{Parts}
+use Rattle.netthimble.specs.declared.Copy.{Copy}
+
+-- no shape
+abbrev pub noShape : Shape
+noShape = shapeOf 0 0 (ofBits binary32 0)
+
+-- The player that a refused rate is answered with: ended, marked as started and as holding a buffer of no channels.
+-- So a start, the buffer call and every block of it are refused.
+unfoldable pub nobody : Player
+nobody = record {
+  «sample_rate» = ofBits binary32 0;
+  «start_time» = context none;
+  «stop_time» = context none;
+  offset = inClip none;
+  duration = inClip none;
+  «loop_state» = loopOf false none none;
+  «render_state» = renderOf none false false none false true;
+  «has_start» = true;
+  «has_buffer» = true;
+  shape = noShape;
+  «has_block» = false;
+  «block_time» = context none;
+}
+
+-- a block of the player p
+unfoldable pub blockFor : Player → Rendered → Block
+blockFor p (rendered.Block r) = record { player = r .player; refusal = 0; «keep_alive» = r .«keep_alive»; ended = r .ended; channels = r .channels; position = r .position }
+blockFor p (rendered.Refused number) = record { player = p; refusal = number; «keep_alive» = false; ended = false; channels = 0; position = inClip none }
+
+-- reading a clip's header: its shape
+unfoldable pub clipFor : ClipRead → Shaped
+clipFor (clip.Clip h) = record { shape = h .shape; refusal = 0 }
+clipFor (clip.Refused number) = record { shape = noShape; refusal = number }
+
+-- reading a clip's frames: the refusal's number, 0 for none
+unfoldable pub framesFor : ClipRead → ℕ
+framesFor (clip.Clip h) = 0
+framesFor (clip.Refused number) = number
+
+-- a copy: the count of frames
+unfoldable pub copyFor : Copied → Copy
+copyFor (copied.Frames n) = record { count = n; refusal = 0 }
+copyFor (copied.Refused number) = record { count = 0; refusal = number }
+
+-- extend and convert: the result's shape
+unfoldable pub madeFor : Made → Shaped
+madeFor (made.Buffer shape) = record { shape = shape; refusal = 0 }
+madeFor (made.Refused number) = record { shape = noShape; refusal = number }
+
+-- split: the shapes of the first part and of the rest
+unfoldable pub partedFor : Parted → Parts
+partedFor (parted.Buffers first rest) = record { first = first; rest = rest; refusal = 0 }
+partedFor (parted.Refused number) = record { first = noShape; rest = noShape; refusal = number }
