@@ -1,2 +1,3 @@
 -- What the proofs of `netthimble` share.
+mod Answers
 mod Same

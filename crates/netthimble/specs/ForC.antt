@@ -1,5 +1,5 @@
 -- The answers of the calls for C: for each case of an answer its values and 0, or the refusal's number beside zeros (document 01, 'The shape of each place': 'a definition gives this paper's number and values for each of its cases'). Definitions only.
--- A message's and a buffer call's answer is `lent`'s `afterCall`: the player, or the same player and the number.
+-- The player's calls are in Lent.antt.
 use mathlib.Core.Bool.{true, false}
 use Prim.Native.Nat.{ℕ}
 use lib.Ieee.{binary32, ofBits}
@@ -15,9 +15,6 @@ use Rattle.clip.specs.declared.ClipRead.the-variants as clip
 use Rattle.player.specs.Seconds.{context, inClip, none}
 use Rattle.player.specs.Record.{shapeOf, loopOf, renderOf}
 use Rattle.player.specs.declared.Player.{Player}
-use Rattle.player.specs.declared.Rendered.{Rendered}
-use Rattle.player.specs.declared.Rendered.the-variants as rendered
-use Rattle.netthimble.specs.declared.Block.{Block}
 use Rattle.netthimble.specs.declared.Shaped.{Shaped}
 use Rattle.netthimble.specs.declared.Parts.{Parts}
 use Rattle.netthimble.specs.declared.Copy.{Copy}
@@ -43,11 +40,6 @@ nobody = record {
   «has_block» = false;
   «block_time» = context none;
 }
-
--- a block of the player p
-unfoldable pub blockFor : Player → Rendered → Block
-blockFor p (rendered.Block r) = record { player = r .player; refusal = 0; «keep_alive» = r .«keep_alive»; ended = r .ended; channels = r .channels; position = r .position }
-blockFor p (rendered.Refused number) = record { player = p; refusal = number; «keep_alive» = false; ended = false; channels = 0; position = inClip none }
 
 -- reading a clip's header: its shape
 unfoldable pub clipFor : ClipRead → Shaped

@@ -2,21 +2,37 @@
 // answer holds the number of its refusal, 0 for none; a refused call gives back the same player and leaves all lent memory as it was.
 mod buffers;
 mod clips;
+mod lent;
 mod playing;
 
 use buffer::Shape;
+pub use lent::handle_control_message;
+pub use lent::netthimble_process;
+pub use lent::netthimble_set_buffer;
 use player::BufferSeconds;
 use player::Player;
 
-// What a block answers.
+// The player that a message or a buffer call leaves, and the number of its refusal, 0 for none.
 #[repr(C)]
-pub struct Block {
+pub struct Told {
     pub player: Player,
+    pub refusal: u32,
+}
+
+// What a block answers: keep-alive, ended, the answered channels and the position; or the number of its refusal beside zeros.
+#[repr(C)]
+pub struct BlockAnswer {
+    pub position: BufferSeconds,
+    pub channels: usize,
     pub refusal: u32,
     pub keep_alive: bool,
     pub ended: bool,
-    pub channels: usize,
-    pub position: BufferSeconds,
+}
+
+// The player that a block leaves, and its answer.
+pub struct Blocked {
+    pub player: Player,
+    pub answer: BlockAnswer,
 }
 
 // The shape of a clip or of a buffer that is made.

@@ -1,4 +1,4 @@
--- `lent::set_buffer` meets its contract: a walk of its MIR, by hand, as `handle_control_message`'s, with a `&` slice beside the player.
+-- `netthimble::lent::netthimble_set_buffer` meets its contract: a walk of its MIR, by hand, as `handle_control_message`'s, with a `&` slice beside the player.
 -- The samples are had twice: one copy goes to `buffer_by_value`, and one is kept for the exit. Assumes nothing.
 use mathlib.Core.Path.{_≡_, refl, ap}
 use Prim.Native.Nat.{ℕ}
@@ -44,21 +44,21 @@ use denote.Triple.Walked.{says, Stays, stay-ref, stay-none-slice, stay-none, wal
 use denote.Exit.{yes}
 use Rattle.player.specs.declared.Player.{Player}
 use Rattle.player.specs.Messages.{buffered}
-use Rattle.lent.specs.declared.Told.{Told}
-use Rattle.lent.specs.Lent.{afterCall}
+use Rattle.netthimble.specs.declared.Told.{Told}
+use Rattle.netthimble.specs.Lent.{afterCall}
 use Rattle.player.proofs.Player as T
 use Rattle.player.proofs.Player.Laws as T′
-use Rattle.lent.proofs.Told as R
-use Rattle.lent.proofs.Told.Laws as R′
-use Rattle.lent.proofs.Answers.{vals, spelled, next, number}
-use Rattle.lent.proofs.buffer_by_value as core
-use Rattle.lent.proofs.buffer_by_value.Symbol as core-def
-use Rattle.lent.proofs.buffer_by_value.Symbol.{name as #lent·buffer-by-value}
-use Rattle.lent.proofs.buffer_by_value.Met as core-thm
-use Rattle.lent.proofs.set_buffer.Key.{name as #lent·set-buffer}
-use Rattle.lent.proofs.set_buffer as f
-use Rattle.lent.proofs.set_buffer.Statement as stated
-use Rattle.lent.proofs.set_buffer.Code as code
+use Rattle.netthimble.proofs.Told as R
+use Rattle.netthimble.proofs.Told.Laws as R′
+use Rattle.netthimble.proofs.Answers.{vals, spelled, next, number}
+use Rattle.netthimble.proofs.lent.buffer_by_value as core
+use Rattle.netthimble.proofs.lent.buffer_by_value.Symbol as core-def
+use Rattle.netthimble.proofs.lent.buffer_by_value.Symbol.{name as #netthimble·lent·buffer-by-value}
+use Rattle.netthimble.proofs.lent.buffer_by_value.Met as core-thm
+use Rattle.netthimble.proofs.lent.netthimble_set_buffer.Key.{name as #netthimble·lent·netthimble-set-buffer}
+use Rattle.netthimble.proofs.lent.netthimble_set_buffer as f
+use Rattle.netthimble.proofs.lent.netthimble_set_buffer.Statement as stated
+use Rattle.netthimble.proofs.lent.netthimble_set_buffer.Code as code
 
 abbrev stayed : Stays (f.ended .signature .params) (f.ended .kept)
 stayed = (stay-ref (0 ∷ []) tt (plain (λ _. T.the-row)), (stay-none (λ _. usize) yes, (stay-none (λ _. usize) yes, (stay-none (λ _. f32) yes, (stay-none-slice (1 ∷ []) tt (plain (λ _. u32)) yes, tt)))))
@@ -117,7 +117,7 @@ module _ {M : Type 1} (𝓤 : URA M) (H : Heap 𝓤) (A : Atoms 𝓤) (W : Given
   ensured-of : (r : Told) → ent 𝓤 (ensured 𝓤 H A core.ended (core.clauses 𝓤 H A at-mem run) (κ₁, tt) passed tt r) (fact 𝓤 (r ≡ Answer))
   ensured-of r = exE 𝓤 _ (λ ws. snd∗ 𝓤 (sem 𝓤 H A (lasts core.ended (κ₁, tt) passed ws)) (fact 𝓤 (r ≡ Answer)))
 
-  module _ (C : Calls 𝓤 H) (Λ : Loops 𝓤 H) (fm : FmC 𝓤 H (W .laws) C) (known : Triple 𝓤 (C #lent·buffer-by-value) (Core 𝓤 H A at-mem run)) where
+  module _ (C : Calls 𝓤 H) (Λ : Loops 𝓤 H) (fm : FmC 𝓤 H (W .laws) C) (known : Triple 𝓤 (C #netthimble·lent·buffer-by-value) (Core 𝓤 H A at-mem run)) where
     walk : Is (ShrSlice (named 1) κ₁ u32) m (slice-vals m)
         → ent 𝓤 (onEntry 𝓤 H A f.signature (κ₀, (κ₁, tt)) (q₀, (q₁, tt)) x at) (WpFn 𝓤 H C Λ code.function (vptr b o ∷ vint w64 channels ∷ vint w64 frames ∷ vfloat binary32 rate ∷ sliceVal (ptr m) (length (now m)) ∷ []) Post)
     walk is-samples =
@@ -154,7 +154,7 @@ module _ {M : Type 1} (𝓤 : URA M) (H : Heap 𝓤) (A : Atoms 𝓤) (W : Given
         keep ! (0 ∷ 1 ∷ 2 ∷ 4 ∷ 3 ∷ []) $ by ! (exits r (number r v is) e)))))))))))))))
 
 module _ {M : Type 1} (𝓤 : URA M) (H : Heap 𝓤) (A : Atoms 𝓤) (W : Given 𝓤 H A) (at-mem : Memory → SProp 𝓤) (run : Routine → Fun 𝓤) where
-  set-buffer-walks : (C : Calls 𝓤 H) (Λ : Loops 𝓤 H) → FmC 𝓤 H (W .laws) C → Triple 𝓤 (C #lent·buffer-by-value) (Core 𝓤 H A at-mem run) → Walks 𝓤 H A f.ended stayed (WpFn 𝓤 H C Λ code.function) (f.clauses 𝓤 H A at-mem run)
+  set-buffer-walks : (C : Calls 𝓤 H) (Λ : Loops 𝓤 H) → FmC 𝓤 H (W .laws) C → Triple 𝓤 (C #netthimble·lent·buffer-by-value) (Core 𝓤 H A at-mem run) → Walks 𝓤 H A f.ended stayed (WpFn 𝓤 H C Λ code.function) (f.clauses 𝓤 H A at-mem run)
   set-buffer-walks C Λ fm known = walked 𝓤 H A f.ended stayed (f.clauses 𝓤 H A at-mem run) (WpFn 𝓤 H C Λ code.function) (λ κs. (ptr-vals, (uint-vals w64, (uint-vals w64, (float-vals binary32, (slice-vals, tt))))))
       (λ κs. (mut-tells (named 0) (κs .0) T.the-row, (uint-tells w64, (uint-tells w64, (float-tells binary32, (shr-slice-tells (named 1) (κs .1 .0) u32, tt))))))
       (λ κs qs bounds a g are. via 𝓤 _ (fst∗ 𝓤 _ (emp 𝓤)) (walk 𝓤 H A W at-mem run (κs .0) (κs .1 .0) (qs .0) (qs .1 .0) (a .0 .ptr .0) (a .0 .ptr .1) (a .0 .name) (a .0 .now)
@@ -173,14 +173,14 @@ module _ {M : Type 1} (𝓤 : URA M) (H : Heap 𝓤) (A : Atoms 𝓤) (W : Given
   )
 
 set-buffer-meets : {M : Type 1} (𝓤 : URA M) (H : Heap 𝓤) (A : Atoms 𝓤) (W : Given 𝓤 H A) (at-mem : Memory → SProp 𝓤) (run : Routine → Fun 𝓤) (𝓣 : Tables 𝓤 H)
-    → Triple 𝓤 (𝓣 .C #lent·buffer-by-value) (Core 𝓤 H A at-mem run) → Meets 𝓤 H A f.signature (WpFn 𝓤 H (𝓣 .C) (𝓣 .Λ) code.function) (f.spec 𝓤 H A at-mem run)
+    → Triple 𝓤 (𝓣 .C #netthimble·lent·buffer-by-value) (Core 𝓤 H A at-mem run) → Meets 𝓤 H A f.signature (WpFn 𝓤 H (𝓣 .C) (𝓣 .Λ) code.function) (f.spec 𝓤 H A at-mem run)
 set-buffer-meets 𝓤 H A W at-mem run 𝓣 known = walk-meets 𝓤 H A f.ended stayed W (goes 𝓤 H A W at-mem run) (f.clauses 𝓤 H A at-mem run) (WpFn 𝓤 H (𝓣 .C) (𝓣 .Λ) code.function) (WpFn-mono 𝓤 H (W .laws) 𝓣 code.function)
     (set-buffer-walks 𝓤 H A W at-mem run (𝓣 .C) (𝓣 .Λ) (fmOf 𝓤 H (W .laws) 𝓣) known)
 
-pub set-buffer-spec : {M : Type 1} → stated.statement M
+pub netthimble-set-buffer-spec : {M : Type 1} → stated.statement M
 unfolding code.routine tablesOf
-set-buffer-spec 𝓤 H 𝓜 𝓖 𝓡 =
+netthimble-set-buffer-spec 𝓤 H 𝓜 𝓖 𝓡 =
     entered 𝓤 H (tripleOf 𝓤 H (𝓖 .A) f.signature (f.spec 𝓤 H (𝓖 .A) (𝓜 .mem) (𝓡 .run)))
-    (tables 𝓤 H 𝓜 𝓡 code.env .C) (tables 𝓤 H 𝓜 𝓡 code.env .Λ) #lent·set-buffer code.function (code.unfolded 𝓤 H 𝓜 𝓡)
+    (tables 𝓤 H 𝓜 𝓡 code.env .C) (tables 𝓤 H 𝓜 𝓡 code.env .Λ) #netthimble·lent·netthimble-set-buffer code.function (code.unfolded 𝓤 H 𝓜 𝓡)
     (set-buffer-meets 𝓤 H (𝓖 .A) (givenOf 𝓤 H 𝓜 𝓖) (𝓜 .mem) (𝓡 .run) (tablesOf 𝓤 H 𝓜 (tables 𝓤 H 𝓜 𝓡 code.env))
-    (cited 𝓤 H (Core 𝓤 H (𝓖 .A) (𝓜 .mem) (𝓡 .run)) 𝓜 𝓡 code.env #lent·buffer-by-value core-def.routine code.calls-lent·buffer-by-value (core-thm.met 𝓤 H 𝓜 𝓖 𝓡)))
+    (cited 𝓤 H (Core 𝓤 H (𝓖 .A) (𝓜 .mem) (𝓡 .run)) 𝓜 𝓡 code.env #netthimble·lent·buffer-by-value core-def.routine code.calls-netthimble·lent·buffer-by-value (core-thm.met 𝓤 H 𝓜 𝓖 𝓡)))

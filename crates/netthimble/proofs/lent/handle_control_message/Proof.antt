@@ -1,4 +1,4 @@
--- `lent::handle_control_message` meets its contract: a walk of its MIR, by hand. The borrow is opened, the player behind it is copied and passed
+-- `netthimble::lent::handle_control_message` meets its contract: a walk of its MIR, by hand. The borrow is opened, the player behind it is copied and passed
 -- to `message_by_value`, the player of the answer is stored, and the borrow is closed at it. No field of the player is named.
 -- All that it knows of `message_by_value` is that it meets its contract. Assumes nothing.
 use mathlib.Core.Path.{_≡_, refl, ap}
@@ -43,23 +43,23 @@ use denote.Exit.{yes}
 use Rattle.player.specs.declared.Player.{Player}
 use Rattle.player.specs.declared.ControlMessage.{ControlMessage}
 use Rattle.player.specs.Messages.{handled}
-use Rattle.lent.specs.declared.Told.{Told}
-use Rattle.lent.specs.Lent.{afterCall}
+use Rattle.netthimble.specs.declared.Told.{Told}
+use Rattle.netthimble.specs.Lent.{afterCall}
 use Rattle.player.proofs.Player as T
 use Rattle.player.proofs.Player.Laws as T′
 use Rattle.player.proofs.ControlMessage as N
 use Rattle.player.proofs.ControlMessage.Laws as N′
-use Rattle.lent.proofs.Told as R
-use Rattle.lent.proofs.Told.Laws as R′
-use Rattle.lent.proofs.Answers.{vals, spelled, next, number}
-use Rattle.lent.proofs.message_by_value as core
-use Rattle.lent.proofs.message_by_value.Symbol as core-def
-use Rattle.lent.proofs.message_by_value.Symbol.{name as #lent·message-by-value}
-use Rattle.lent.proofs.message_by_value.Met as core-thm
-use Rattle.lent.proofs.handle_control_message.Key.{name as #lent·handle-control-message}
-use Rattle.lent.proofs.handle_control_message as f
-use Rattle.lent.proofs.handle_control_message.Statement as stated
-use Rattle.lent.proofs.handle_control_message.Code as code
+use Rattle.netthimble.proofs.Told as R
+use Rattle.netthimble.proofs.Told.Laws as R′
+use Rattle.netthimble.proofs.Answers.{vals, spelled, next, number}
+use Rattle.netthimble.proofs.lent.message_by_value as core
+use Rattle.netthimble.proofs.lent.message_by_value.Symbol as core-def
+use Rattle.netthimble.proofs.lent.message_by_value.Symbol.{name as #netthimble·lent·message-by-value}
+use Rattle.netthimble.proofs.lent.message_by_value.Met as core-thm
+use Rattle.netthimble.proofs.lent.handle_control_message.Key.{name as #netthimble·lent·handle-control-message}
+use Rattle.netthimble.proofs.lent.handle_control_message as f
+use Rattle.netthimble.proofs.lent.handle_control_message.Statement as stated
+use Rattle.netthimble.proofs.lent.handle_control_message.Code as code
 
 abbrev stayed : Stays (f.ended .signature .params) (f.ended .kept)
 stayed = (stay-ref (0 ∷ []) tt (plain (λ _. T.the-row)), (stay-none (λ _. N.the-row) yes, tt))
@@ -105,7 +105,7 @@ module _ {M : Type 1} (𝓤 : URA M) (H : Heap 𝓤) (A : Atoms 𝓤) (W : Given
       qed W (‵ (T.the-row .own h (vals h)) ∷ ‵ (N.the-row .own m (message m)) ∷ []) ∵
       nothing ! $ move ! (2 ∷ 0 ∷ []) $ join ! $ move ! (1 ∷ 0 ∷ []) $ join ! $ nothing ! $ join ! $ frame ! $ done !
 
-  module _ (C : Calls 𝓤 H) (Λ : Loops 𝓤 H) (fm : FmC 𝓤 H (W .laws) C) (known : Triple 𝓤 (C #lent·message-by-value) (Core 𝓤 H A at-mem run)) where
+  module _ (C : Calls 𝓤 H) (Λ : Loops 𝓤 H) (fm : FmC 𝓤 H (W .laws) C) (known : Triple 𝓤 (C #netthimble·lent·message-by-value) (Core 𝓤 H A at-mem run)) where
     walk : ent 𝓤 (onEntry 𝓤 H A f.signature (κ, tt) (q, tt) x at) (WpFn 𝓤 H C Λ code.function (vptr b o ∷ message m) Post)
     walk =
         qed W ((‵ (flft κ q) ⊛ ‵ ftrue) ∷ ‵ (owns (MutRef (named 0) κ T.the-row ∷ N.the-row ∷ []) x at) ∷ []) ∵ split ! $ move ! (2 ∷ []) $ fsplit ! $ move ! (1 ∷ []) $ fsplit ! $
@@ -136,7 +136,7 @@ module _ {M : Type 1} (𝓤 : URA M) (H : Heap 𝓤) (A : Atoms 𝓤) (W : Given
         keep ! (0 ∷ 1 ∷ 2 ∷ []) $ by ! (exits ok r (number r v is) e)))))))))))))
 
 module _ {M : Type 1} (𝓤 : URA M) (H : Heap 𝓤) (A : Atoms 𝓤) (W : Given 𝓤 H A) (at-mem : Memory → SProp 𝓤) (run : Routine → Fun 𝓤) where
-  handle-control-message-walks : (C : Calls 𝓤 H) (Λ : Loops 𝓤 H) → FmC 𝓤 H (W .laws) C → Triple 𝓤 (C #lent·message-by-value) (Core 𝓤 H A at-mem run) → Walks 𝓤 H A f.ended stayed (WpFn 𝓤 H C Λ code.function) (f.clauses 𝓤 H A at-mem run)
+  handle-control-message-walks : (C : Calls 𝓤 H) (Λ : Loops 𝓤 H) → FmC 𝓤 H (W .laws) C → Triple 𝓤 (C #netthimble·lent·message-by-value) (Core 𝓤 H A at-mem run) → Walks 𝓤 H A f.ended stayed (WpFn 𝓤 H C Λ code.function) (f.clauses 𝓤 H A at-mem run)
   handle-control-message-walks C Λ fm known = walked 𝓤 H A f.ended stayed (f.clauses 𝓤 H A at-mem run) (WpFn 𝓤 H C Λ code.function) (λ κs. (ptr-vals, (message, tt))) (λ κs. (mut-tells (named 0) (κs .0) T.the-row, (EL.tells N.the-type N′.the-laws, tt)))
       (λ κs qs bounds a _ _. via 𝓤 _ (fst∗ 𝓤 _ (emp 𝓤)) (walk 𝓤 H A W at-mem run (κs .0) (qs .0) (a .0 .ptr .0) (a .0 .ptr .1) (a .0 .name) (a .0 .now) (a .1 .0) C Λ fm known))
 
@@ -144,7 +144,7 @@ module _ {M : Type 1} (𝓤 : URA M) (H : Heap 𝓤) (A : Atoms 𝓤) (W : Given
   goes = (goes-ref 𝓤 H A W 1 0 tt (plain (λ _. T.the-row)), (goes-none 𝓤 H A W 1 (λ _. N.the-row) yes (λ κs x f. refl), tt))
 
 handle-control-message-meets : {M : Type 1} (𝓤 : URA M) (H : Heap 𝓤) (A : Atoms 𝓤) (W : Given 𝓤 H A) (at-mem : Memory → SProp 𝓤) (run : Routine → Fun 𝓤) (𝓣 : Tables 𝓤 H)
-    → Triple 𝓤 (𝓣 .C #lent·message-by-value) (Core 𝓤 H A at-mem run) → Meets 𝓤 H A f.signature (WpFn 𝓤 H (𝓣 .C) (𝓣 .Λ) code.function) (f.spec 𝓤 H A at-mem run)
+    → Triple 𝓤 (𝓣 .C #netthimble·lent·message-by-value) (Core 𝓤 H A at-mem run) → Meets 𝓤 H A f.signature (WpFn 𝓤 H (𝓣 .C) (𝓣 .Λ) code.function) (f.spec 𝓤 H A at-mem run)
 handle-control-message-meets 𝓤 H A W at-mem run 𝓣 known = walk-meets 𝓤 H A f.ended stayed W (goes 𝓤 H A W at-mem run) (f.clauses 𝓤 H A at-mem run) (WpFn 𝓤 H (𝓣 .C) (𝓣 .Λ) code.function) (WpFn-mono 𝓤 H (W .laws) 𝓣 code.function)
     (handle-control-message-walks 𝓤 H A W at-mem run (𝓣 .C) (𝓣 .Λ) (fmOf 𝓤 H (W .laws) 𝓣) known)
 
@@ -152,6 +152,6 @@ pub handle-control-message-spec : {M : Type 1} → stated.statement M
 unfolding code.routine tablesOf
 handle-control-message-spec 𝓤 H 𝓜 𝓖 𝓡 =
     entered 𝓤 H (tripleOf 𝓤 H (𝓖 .A) f.signature (f.spec 𝓤 H (𝓖 .A) (𝓜 .mem) (𝓡 .run)))
-    (tables 𝓤 H 𝓜 𝓡 code.env .C) (tables 𝓤 H 𝓜 𝓡 code.env .Λ) #lent·handle-control-message code.function (code.unfolded 𝓤 H 𝓜 𝓡)
+    (tables 𝓤 H 𝓜 𝓡 code.env .C) (tables 𝓤 H 𝓜 𝓡 code.env .Λ) #netthimble·lent·handle-control-message code.function (code.unfolded 𝓤 H 𝓜 𝓡)
     (handle-control-message-meets 𝓤 H (𝓖 .A) (givenOf 𝓤 H 𝓜 𝓖) (𝓜 .mem) (𝓡 .run) (tablesOf 𝓤 H 𝓜 (tables 𝓤 H 𝓜 𝓡 code.env))
-    (cited 𝓤 H (Core 𝓤 H (𝓖 .A) (𝓜 .mem) (𝓡 .run)) 𝓜 𝓡 code.env #lent·message-by-value core-def.routine code.calls-lent·message-by-value (core-thm.met 𝓤 H 𝓜 𝓖 𝓡)))
+    (cited 𝓤 H (Core 𝓤 H (𝓖 .A) (𝓜 .mem) (𝓡 .run)) 𝓜 𝓡 code.env #netthimble·lent·message-by-value core-def.routine code.calls-netthimble·lent·message-by-value (core-thm.met 𝓤 H 𝓜 𝓖 𝓡)))

@@ -1,9 +1,9 @@
--- `lent::buffer_by_value` meets its contract. Assumes nothing.
+-- `netthimble::lent::buffer_by_value` meets its contract. Assumes nothing.
 use mathlib.Core.Path.{_∙_, ap}
-use Rattle.lent.specs.Lent.{afterCall}
+use Rattle.netthimble.specs.Lent.{afterCall}
 use borrow.Author.Needs.{needs}
-use Rattle.lent.proofs.buffer_by_value.Statement.{statement}
-use Rattle.lent.proofs.buffer_by_value.Tie as tie
+use Rattle.netthimble.proofs.lent.buffer_by_value.Statement.{statement}
+use Rattle.netthimble.proofs.lent.buffer_by_value.Tie as tie
 
 set-buffer-requires : tie.Need-set-buffer-requires
 set-buffer-requires c κs = search needs

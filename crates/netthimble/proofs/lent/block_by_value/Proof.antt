@@ -1,9 +1,9 @@
--- `lent::block_by_value` meets its contract. Assumes nothing.
+-- `netthimble::lent::block_by_value` meets its contract. Assumes nothing.
 use mathlib.Core.Path.{_∙_, ap}
-use Rattle.lent.specs.Lent.{afterBlock}
+use Rattle.netthimble.specs.Lent.{afterBlock}
 use borrow.Author.Needs.{needs}
-use Rattle.lent.proofs.block_by_value.Statement.{statement}
-use Rattle.lent.proofs.block_by_value.Tie as tie
+use Rattle.netthimble.proofs.lent.block_by_value.Statement.{statement}
+use Rattle.netthimble.proofs.lent.block_by_value.Tie as tie
 
 process-requires : tie.Need-process-requires
 process-requires c κs = search needs

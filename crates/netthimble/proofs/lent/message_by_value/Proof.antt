@@ -1,9 +1,9 @@
--- `lent::message_by_value` meets its contract. Assumes nothing.
+-- `netthimble::lent::message_by_value` meets its contract. Assumes nothing.
 use mathlib.Core.Path.{_∙_, ap}
-use Rattle.lent.specs.Lent.{afterCall}
+use Rattle.netthimble.specs.Lent.{afterCall}
 use borrow.Author.Needs.{needs}
-use Rattle.lent.proofs.message_by_value.Statement.{statement}
-use Rattle.lent.proofs.message_by_value.Tie as tie
+use Rattle.netthimble.proofs.lent.message_by_value.Statement.{statement}
+use Rattle.netthimble.proofs.lent.message_by_value.Tie as tie
 
 handle-control-message-requires : tie.Need-handle-control-message-requires
 handle-control-message-requires c κs = search needs

@@ -1,9 +1,9 @@
--- `lent::after_block` meets its contract: in each arm the answer is its variant, at which the definition computes. Assumes nothing.
+-- `netthimble::lent::after_block` meets its contract: in each arm the answer is its variant, at which the definition computes. Assumes nothing.
 use mathlib.Core.Path.{sym, ap}
-use Rattle.lent.specs.Lent.{afterBlock}
+use Rattle.netthimble.specs.Lent.{afterBlock}
 use borrow.Author.Needs.{needs}
-use Rattle.lent.proofs.after_block.Statement.{statement}
-use Rattle.lent.proofs.after_block.Tie as tie
+use Rattle.netthimble.proofs.lent.after_block.Statement.{statement}
+use Rattle.netthimble.proofs.lent.after_block.Tie as tie
 
 enum-known-rendered : tie.Need-enum-known-rendered
 enum-known-rendered c = search needs

@@ -8,11 +8,11 @@ use denote.Builtin.{u32}
 use denote.Struct.Declared.{Declared, row}
 use denote.Struct.Laws as LL
 use Rattle.player.specs.declared.Player.{Player}
-use Rattle.lent.specs.declared.Told.{Told}
+use Rattle.netthimble.specs.declared.Told.{Told}
 use Rattle.player.proofs.Player as T
 use Rattle.player.proofs.Player.Laws as T′
-use Rattle.lent.proofs.Told as R
-use Rattle.lent.proofs.Told.Laws as R′
+use Rattle.netthimble.proofs.Told as R
+use Rattle.netthimble.proofs.Told.Laws as R′
 
 -- a player's machine value
 abbrev pub vals : Player → List Val

@@ -1,4 +1,4 @@
--- `lent::process` meets its contract: a walk of its MIR, by hand, as `handle_control_message`'s, with a `&mut` slice and a `&` slice beside the player.
+-- `netthimble::lent::netthimble_process` meets its contract: a walk of its MIR, by hand, as `handle_control_message`'s, with a `&mut` slice and a `&` slice beside the player.
 -- The output goes to `block_by_value` at its own lifetime, share and ghost name, and is given up for good: what `block_by_value` says of its last list is said here.
 -- The samples are had twice: one copy goes to `block_by_value`, and one is kept for the exit. Assumes nothing.
 use mathlib.Core.Path.{_≡_, refl, ap}
@@ -35,7 +35,6 @@ use denote.Signature.{plain}
 use denote.Steps.{opens, closes, owned, peeks, facts, heard, nothing}
 use denote.Struct.Steps.{spelt}
 use denote.Struct.Laws as LL
-use denote.Enum.Laws as EL
 use denote.Triple.Statement.{Contract, Triple}
 use denote.Triple.Call.{calls-at}
 use denote.Triple.Clauses.{ensured, lasts}
@@ -46,31 +45,31 @@ use denote.Triple.Walked.{says, Stays, stay-ref, gave-slice, stay-none-slice, st
 use denote.Exit.{yes}
 use Rattle.player.specs.declared.Player.{Player}
 use Rattle.player.specs.Block.{rendered, output}
-use Rattle.lent.specs.declared.Blocked.{Blocked}
-use Rattle.lent.specs.declared.BlockAnswer.{BlockAnswer}
-use Rattle.lent.specs.Lent.{afterBlock}
+use Rattle.netthimble.specs.declared.Blocked.{Blocked}
+use Rattle.netthimble.specs.declared.BlockAnswer.{BlockAnswer}
+use Rattle.netthimble.specs.Lent.{afterBlock}
 use Rattle.player.proofs.Player as T
 use Rattle.player.proofs.Player.Laws as T′
-use Rattle.lent.proofs.Blocked as R
-use Rattle.lent.proofs.Blocked.Laws as R′
-use Rattle.lent.proofs.BlockAnswer as N
-use Rattle.lent.proofs.BlockAnswer.Laws as N′
-use Rattle.lent.proofs.Answers.{vals, spelled}
-use Rattle.lent.proofs.block_by_value as core
-use Rattle.lent.proofs.block_by_value.Symbol as core-def
-use Rattle.lent.proofs.block_by_value.Symbol.{name as #lent·block-by-value}
-use Rattle.lent.proofs.block_by_value.Met as core-thm
-use Rattle.lent.proofs.process.Key.{name as #lent·process}
-use Rattle.lent.proofs.process as f
-use Rattle.lent.proofs.process.Statement as stated
-use Rattle.lent.proofs.process.Code as code
+use Rattle.netthimble.proofs.Blocked as R
+use Rattle.netthimble.proofs.Blocked.Laws as R′
+use Rattle.netthimble.proofs.BlockAnswer as N
+use Rattle.netthimble.proofs.BlockAnswer.Laws as N′
+use Rattle.netthimble.proofs.Answers.{vals, spelled}
+use Rattle.netthimble.proofs.lent.block_by_value as core
+use Rattle.netthimble.proofs.lent.block_by_value.Symbol as core-def
+use Rattle.netthimble.proofs.lent.block_by_value.Symbol.{name as #netthimble·lent·block-by-value}
+use Rattle.netthimble.proofs.lent.block_by_value.Met as core-thm
+use Rattle.netthimble.proofs.lent.netthimble_process.Key.{name as #netthimble·lent·netthimble-process}
+use Rattle.netthimble.proofs.lent.netthimble_process as f
+use Rattle.netthimble.proofs.lent.netthimble_process.Statement as stated
+use Rattle.netthimble.proofs.lent.netthimble_process.Code as code
 
 abbrev stayed : Stays (f.ended .signature .params) (f.ended .kept)
 stayed = (stay-ref (0 ∷ []) tt (plain (λ _. T.the-row)), (gave-slice (1 ∷ []) tt (plain (λ _. u32)), (stay-none-slice (2 ∷ []) tt (plain (λ _. u32)) yes, (stay-none (λ _. f64) yes, (stay-none (λ _. f32) yes, (stay-none (λ _. f64) yes, tt))))))
 
 -- an answer's machine value
 abbrev answered : BlockAnswer → Val
-answered = EL.val N.the-type N′.the-laws
+answered = LL.val N.the-type N′.the-laws
 
 -- the parts of what `block_by_value` returns are a player and an answer
 next : (r : Blocked) (v : Val) → Is R.the-row r (v ∷ []) → Is T.the-row (r .player) (vals (r .player))
@@ -120,7 +119,7 @@ module _ {M : Type 1} (𝓤 : URA M) (H : Heap 𝓤) (A : Atoms 𝓤) (W : Given
       says ! (ap (λ (z : Blocked). z .answer) (e .0), ap (λ (z : Blocked). z .player) (e .0), e .1) $ move ! (2 ∷ 5 ∷ []) $ join ! $ frame ! $
       nothing ! $ owned ! f64 (Is f64) (float-makes 𝓤 H A W binary64) factor _ (refl, ok-factor) $ fjoin ! $ owned ! f32 (Is f32) (float-makes 𝓤 H A W binary32) rate _ (refl, ok-rate) $ fjoin ! $ owned ! f64 (Is f64) (float-makes 𝓤 H A W binary64) time _ (refl, ok-time) $ fjoin ! $ move ! (4 ∷ 0 ∷ []) $ fjoin ! $ move ! (3 ∷ 0 ∷ []) $ fjoin ! $
       move ! (1 ∷ 2 ∷ []) $ feqI ! (List Val) (vptr b o ∷ []) (vptr b o ∷ []) refl $ fjoin3 ! $ fjoin ! $
-      owned ! N.the-row (Is N.the-row) (EL.makes N.the-type N′.the-plain 𝓤 H A) (r .answer) _ is $ move ! (1 ∷ 0 ∷ []) $ done !
+      owned ! N.the-row (Is N.the-row) (LL.makes N.the-type N′.the-plain 𝓤 H A) (r .answer) _ is $ move ! (1 ∷ 0 ∷ []) $ done !
 
   -- what is passed to `block_by_value`
   abbrev passed : Player × (RefT (List ℕ) × (RefT (List ℕ) × (Float × (Float × (Float × Unit {0})))))
@@ -135,7 +134,7 @@ module _ {M : Type 1} (𝓤 : URA M) (H : Heap 𝓤) (A : Atoms 𝓤) (W : Given
       nothing ! $ owned ! f64 (Is f64) (float-makes 𝓤 H A W binary64) factor _ (refl, ok-factor) $ fjoin ! $ owned ! f32 (Is f32) (float-makes 𝓤 H A W binary32) rate _ (refl, ok-rate) $ fjoin ! $ owned ! f64 (Is f64) (float-makes 𝓤 H A W binary64) time _ (refl, ok-time) $ fjoin ! $ move ! (3 ∷ 0 ∷ []) $ fjoin ! $ move ! (2 ∷ 0 ∷ []) $ fjoin ! $
       owned ! T.the-row (Is T.the-row) (LL.makes T.the-type T′.the-plain 𝓤 H A) h _ was $ fjoin ! $ move ! (1 ∷ 0 ∷ []) $ join ! $ frame ! $ done !
 
-  module _ (C : Calls 𝓤 H) (Λ : Loops 𝓤 H) (fm : FmC 𝓤 H (W .laws) C) (known : Triple 𝓤 (C #lent·block-by-value) (Core 𝓤 H A at-mem run)) where
+  module _ (C : Calls 𝓤 H) (Λ : Loops 𝓤 H) (fm : FmC 𝓤 H (W .laws) C) (known : Triple 𝓤 (C #netthimble·lent·block-by-value) (Core 𝓤 H A at-mem run)) where
     walk : Is (MutSlice (named 1) κ₁ u32) s (slice-vals s) → Is (ShrSlice (named 2) κ₂ u32) m (slice-vals m)
         → ent 𝓤 (onEntry 𝓤 H A f.signature (κ₀, (κ₁, (κ₂, tt))) (q₀, (q₁, (q₂, tt))) x at) (WpFn 𝓤 H C Λ code.function (vptr b o ∷ sliceVal (ptr s) (length (now s)) ∷ sliceVal (ptr m) (length (now m)) ∷ vfloat binary64 time ∷ vfloat binary32 rate ∷ vfloat binary64 factor ∷ []) Post)
     walk is-out is-samples =
@@ -168,7 +167,7 @@ module _ {M : Type 1} (𝓤 : URA M) (H : Heap 𝓤) (A : Atoms 𝓤) (W : Given
         land ! (from ! (stop !)) (init ! 16 refl (LL.lawful R.the-type R′.the-laws 𝓤 H A W .typed r _ is .0)) $
         rewrite ! 16 (λ (u : Val). ‵ (fat fullShare R′.mir l₇ 0 u)) (spelled R.the-type R′.the-laws r v is) refl $
         assigns ! (of-opd ! (load ! (from ! (fld ! refl (stop !))) (look-in ! 16 (sub ! 0 refl (whole !))))) (from ! (hop ! (look ! 28 refl) (stop !))) (store-raw ! 5 refl (LL.lawful T.the-type T′.the-laws 𝓤 H A W .typed (r .player) _ (next r v is) .0)) $
-        assigns ! (of-opd ! (load ! (from ! (fld ! refl (stop !))) (look-in ! 16 (sub ! 1 refl (whole !))))) (from ! (stop !)) (init ! 30 refl (EL.lawful N.the-type N′.the-laws 𝓤 H A W tt .typed (r .answer) _ (told r v is) .0)) $
+        assigns ! (of-opd ! (load ! (from ! (fld ! refl (stop !))) (look-in ! 16 (sub ! 1 refl (whole !))))) (from ! (stop !)) (init ! 30 refl (LL.lawful N.the-type N′.the-laws 𝓤 H A W .typed (r .answer) _ (told r v is) .0)) $
         move ! (6 ∷ []) $ drop ! $ owned ! T.the-row (Is T.the-row) (LL.makes T.the-type T′.the-plain 𝓤 H A) (r .player) _ (next r v is) $
         move ! (6 ∷ 0 ∷ 7 ∷ 8 ∷ 9 ∷ []) $ closes ! tt T.the-row (r .player) (vals (r .player)) b o $
         -- [obs; the borrow; its token; the tokens; the last list; …; …; the samples; _10; …; to _0; …]
@@ -178,7 +177,7 @@ module _ {M : Type 1} (𝓤 : URA M) (H : Heap 𝓤) (A : Atoms 𝓤) (W : Given
         keep ! (0 ∷ 1 ∷ 2 ∷ 4 ∷ 7 ∷ 3 ∷ []) $ by ! (exits r (zs .1 .0) (told r v is) e l))))))))))))))))))))
 
 module _ {M : Type 1} (𝓤 : URA M) (H : Heap 𝓤) (A : Atoms 𝓤) (W : Given 𝓤 H A) (at-mem : Memory → SProp 𝓤) (run : Routine → Fun 𝓤) where
-  process-walks : (C : Calls 𝓤 H) (Λ : Loops 𝓤 H) → FmC 𝓤 H (W .laws) C → Triple 𝓤 (C #lent·block-by-value) (Core 𝓤 H A at-mem run) → Walks 𝓤 H A f.ended stayed (WpFn 𝓤 H C Λ code.function) (f.clauses 𝓤 H A at-mem run)
+  process-walks : (C : Calls 𝓤 H) (Λ : Loops 𝓤 H) → FmC 𝓤 H (W .laws) C → Triple 𝓤 (C #netthimble·lent·block-by-value) (Core 𝓤 H A at-mem run) → Walks 𝓤 H A f.ended stayed (WpFn 𝓤 H C Λ code.function) (f.clauses 𝓤 H A at-mem run)
   process-walks C Λ fm known = walked 𝓤 H A f.ended stayed (f.clauses 𝓤 H A at-mem run) (WpFn 𝓤 H C Λ code.function) (λ κs. (ptr-vals, (slice-vals, (slice-vals, (float-vals binary64, (float-vals binary32, (float-vals binary64, tt)))))))
       (λ κs. (mut-tells (named 0) (κs .0) T.the-row, (mut-slice-tells (named 1) (κs .1 .0) u32, (shr-slice-tells (named 2) (κs .1 .1 .0) u32, (float-tells binary64, (float-tells binary32, (float-tells binary64, tt)))))))
       (λ κs qs bounds a g are. via 𝓤 _ (fst∗ 𝓤 _ (emp 𝓤)) (walk 𝓤 H A W at-mem run (κs .0) (κs .1 .0) (κs .1 .1 .0) (qs .0) (qs .1 .0) (qs .1 .1 .0)
@@ -188,14 +187,14 @@ module _ {M : Type 1} (𝓤 : URA M) (H : Heap 𝓤) (A : Atoms 𝓤) (W : Given
   goes = (goes-ref 𝓤 H A W 3 0 tt (plain (λ _. T.the-row)), (goes-gave-slice 𝓤 H A W 3 1 tt (plain (λ _. u32)), (goes-none-slice 𝓤 H A W 3 (2 ∷ []) tt (plain (λ _. u32)) yes, (goes-none 𝓤 H A W 3 (λ _. f64) yes (λ κs x f. refl), (goes-none 𝓤 H A W 3 (λ _. f32) yes (λ κs x f. refl), (goes-none 𝓤 H A W 3 (λ _. f64) yes (λ κs x f. refl), tt))))))
 
 process-meets : {M : Type 1} (𝓤 : URA M) (H : Heap 𝓤) (A : Atoms 𝓤) (W : Given 𝓤 H A) (at-mem : Memory → SProp 𝓤) (run : Routine → Fun 𝓤) (𝓣 : Tables 𝓤 H)
-    → Triple 𝓤 (𝓣 .C #lent·block-by-value) (Core 𝓤 H A at-mem run) → Meets 𝓤 H A f.signature (WpFn 𝓤 H (𝓣 .C) (𝓣 .Λ) code.function) (f.spec 𝓤 H A at-mem run)
+    → Triple 𝓤 (𝓣 .C #netthimble·lent·block-by-value) (Core 𝓤 H A at-mem run) → Meets 𝓤 H A f.signature (WpFn 𝓤 H (𝓣 .C) (𝓣 .Λ) code.function) (f.spec 𝓤 H A at-mem run)
 process-meets 𝓤 H A W at-mem run 𝓣 known = walk-meets 𝓤 H A f.ended stayed W (goes 𝓤 H A W at-mem run) (f.clauses 𝓤 H A at-mem run) (WpFn 𝓤 H (𝓣 .C) (𝓣 .Λ) code.function) (WpFn-mono 𝓤 H (W .laws) 𝓣 code.function)
     (process-walks 𝓤 H A W at-mem run (𝓣 .C) (𝓣 .Λ) (fmOf 𝓤 H (W .laws) 𝓣) known)
 
-pub process-spec : {M : Type 1} → stated.statement M
+pub netthimble-process-spec : {M : Type 1} → stated.statement M
 unfolding code.routine tablesOf
-process-spec 𝓤 H 𝓜 𝓖 𝓡 =
+netthimble-process-spec 𝓤 H 𝓜 𝓖 𝓡 =
     entered 𝓤 H (tripleOf 𝓤 H (𝓖 .A) f.signature (f.spec 𝓤 H (𝓖 .A) (𝓜 .mem) (𝓡 .run)))
-    (tables 𝓤 H 𝓜 𝓡 code.env .C) (tables 𝓤 H 𝓜 𝓡 code.env .Λ) #lent·process code.function (code.unfolded 𝓤 H 𝓜 𝓡)
+    (tables 𝓤 H 𝓜 𝓡 code.env .C) (tables 𝓤 H 𝓜 𝓡 code.env .Λ) #netthimble·lent·netthimble-process code.function (code.unfolded 𝓤 H 𝓜 𝓡)
     (process-meets 𝓤 H (𝓖 .A) (givenOf 𝓤 H 𝓜 𝓖) (𝓜 .mem) (𝓡 .run) (tablesOf 𝓤 H 𝓜 (tables 𝓤 H 𝓜 𝓡 code.env))
-    (cited 𝓤 H (Core 𝓤 H (𝓖 .A) (𝓜 .mem) (𝓡 .run)) 𝓜 𝓡 code.env #lent·block-by-value core-def.routine code.calls-lent·block-by-value (core-thm.met 𝓤 H 𝓜 𝓖 𝓡)))
+    (cited 𝓤 H (Core 𝓤 H (𝓖 .A) (𝓜 .mem) (𝓡 .run)) 𝓜 𝓡 code.env #netthimble·lent·block-by-value core-def.routine code.calls-netthimble·lent·block-by-value (core-thm.met 𝓤 H 𝓜 𝓖 𝓡)))

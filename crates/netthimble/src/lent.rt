@@ -4,33 +4,17 @@ ghost use mathlib.Core.Path.{_≡_};
 ghost use lib.ListN.{length};
 ghost use Rattle.player.specs.Messages.{handled, buffered};
 ghost use Rattle.player.specs.Block.{rendered, output};
-ghost use Rattle.lent.specs.Lent.{afterCall, afterBlock};
+ghost use Rattle.netthimble.specs.Lent.{afterCall, afterBlock};
+use super::BlockAnswer;
+use super::Blocked;
+use super::Told;
 use player::BufferSeconds;
 use player::ControlMessage;
 use player::Handled;
 use player::Player;
 use player::Rendered;
 
-// The player that a message or a buffer call leaves, and the number of its refusal, 0 for none.
-#[repr(C)]
-pub struct Told {
-    pub player: Player,
-    pub refusal: u32,
-}
-
-// What a block answers: keep-alive, ended, the answered channels and the position; or the number of its refusal.
-pub enum BlockAnswer {
-    Block(bool, bool, usize, BufferSeconds),
-    Refused(u32),
-}
-
-// The player that a block leaves, and its answer.
-pub struct Blocked {
-    pub player: Player,
-    pub answer: BlockAnswer,
-}
-
-fn after_call(p: Player, handled: Handled) -> Told
+pub(crate) fn after_call(p: Player, handled: Handled) -> Told
     ensures { λ r. ⌜ r ≡ afterCall p handled ⌝ }
 {
     match handled {
@@ -39,7 +23,7 @@ fn after_call(p: Player, handled: Handled) -> Told
     }
 }
 
-fn message_by_value(p: Player, m: ControlMessage) -> Told
+pub(crate) fn message_by_value(p: Player, m: ControlMessage) -> Told
     ensures { λ r. ⌜ r ≡ afterCall p (handled p m) ⌝ }
 {
     after_call(p, p.handle_control_message(m))
@@ -58,11 +42,23 @@ fn after_block(p: Player, rendered: Rendered) -> Blocked
         Rendered::Block(r) => {
             let player = r.player;
             let position = r.position;
-            let answer = BlockAnswer::Block(r.keep_alive, r.ended, r.channels, position);
+            let answer = BlockAnswer {
+                position,
+                channels: r.channels,
+                refusal: 0,
+                keep_alive: r.keep_alive,
+                ended: r.ended,
+            };
             Blocked { player, answer }
         }
-        Rendered::Refused(number) => {
-            let answer = BlockAnswer::Refused(number);
+        Rendered::Refused(refusal) => {
+            let answer = BlockAnswer {
+                position: BufferSeconds(0.0),
+                channels: 0,
+                refusal,
+                keep_alive: false,
+                ended: false,
+            };
             Blocked { player: p, answer }
         }
     }
@@ -94,7 +90,14 @@ pub fn handle_control_message(p: &mut Player, m: ControlMessage) -> u32
 
 // Gives the player its clip: `channels` channels of `frames` frames, at `rate`, in `samples`.
 // Returns the number of its refusal, 0 for none.
-pub fn set_buffer(p: &mut Player, channels: usize, frames: usize, rate: f32, samples: &[u32]) -> u32
+#[no_mangle]
+pub extern "C" fn netthimble_set_buffer(
+    p: &mut Player,
+    channels: usize,
+    frames: usize,
+    rate: f32,
+    samples: &[u32],
+) -> u32
     ensures { λ r. ⌜ (r ≡ afterCall (now (p .entry)) (buffered (now (p .entry)) channels frames rate (length (now (samples .entry)))) .refusal)
         × (now (p .exit) ≡ afterCall (now (p .entry)) (buffered (now (p .entry)) channels frames rate (length (now (samples .entry)))) .player) ⌝ }
 {
@@ -104,7 +107,8 @@ pub fn set_buffer(p: &mut Player, channels: usize, frames: usize, rate: f32, sam
 }
 
 // Renders a block into the lent output.
-pub fn process(
+#[no_mangle]
+pub extern "C" fn netthimble_process(
     p: &mut Player,
     out: &mut [u32],
     samples: &[u32],

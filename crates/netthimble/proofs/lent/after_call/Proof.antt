@@ -1,9 +1,9 @@
--- `lent::after_call` meets its contract: in each arm the answer is its variant, at which the definition computes. Assumes nothing.
+-- `netthimble::lent::after_call` meets its contract: in each arm the answer is its variant, at which the definition computes. Assumes nothing.
 use mathlib.Core.Path.{sym, ap}
-use Rattle.lent.specs.Lent.{afterCall}
+use Rattle.netthimble.specs.Lent.{afterCall}
 use borrow.Author.Needs.{needs}
-use Rattle.lent.proofs.after_call.Statement.{statement}
-use Rattle.lent.proofs.after_call.Tie as tie
+use Rattle.netthimble.proofs.lent.after_call.Statement.{statement}
+use Rattle.netthimble.proofs.lent.after_call.Tie as tie
 
 enum-known-handled : tie.Need-enum-known-handled
 enum-known-handled c = search needs

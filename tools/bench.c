@@ -1,0 +1,124 @@
+/* The runs of `replay bench` (oracle/rust/replay/bench.rs), of ours through the C library, and memcpy as the limit: lines `name ns`. */
+#include <netthimble.h>
+#include <stdio.h>
+#include <stdlib.h>
+#include <string.h>
+#include <time.h>
+
+enum { BLOCKS = 4000, MILLION = 1000000 };
+static const float RATE = 48000.0f;
+static uint32_t out[4096];
+
+static double now(void) {
+    struct timespec t;
+    clock_gettime(CLOCK_MONOTONIC, &t);
+    return t.tv_sec * 1e9 + t.tv_nsec;
+}
+
+/* Noise between -1 and 1, or the whole numbers from 0 on. */
+static uint32_t *frames_of(size_t count, bool noise) {
+    uint32_t state = 1, *words = malloc(4 * count);
+    if (!words) abort();
+    for (size_t i = 0; i < count; i++) {
+        state = state * 1664525u + 1013904223u;
+        float f = noise ? (float)(int32_t)state / 2147483648.0f : (float)i;
+        memcpy(words + i, &f, 4);
+    }
+    return words;
+}
+
+static void must(uint32_t refusal) {
+    if (refusal) {
+        fprintf(stderr, "bench: refused with %u\n", (unsigned)refusal);
+        exit(1);
+    }
+}
+
+/* A player that has played nothing yet. */
+static netthimble_player begun(size_t channels, size_t frames, bool looped, const uint32_t *words) {
+    netthimble_told made = netthimble_new(RATE);
+    netthimble_player p = made.player;
+    must(made.refusal);
+    must(netthimble_set_buffer(&p, channels, frames, RATE, words, channels * frames));
+    must(netthimble_player_loop(&p, looped));
+    must(netthimble_player_start(&p, 0.0, 0.0, 1.7976931348623157e308));
+    return p;
+}
+
+static double block_run(size_t channels, size_t frames, bool looped, float rate, const uint32_t *words) {
+    netthimble_player p = begun(channels, frames, looped, words);
+    double t = now();
+    for (size_t n = 0; n < BLOCKS; n++) {
+        must(netthimble_process(&p, out, 4096, words, channels * frames, (double)(128 * n) / RATE, rate, 1.0).refusal);
+    }
+    return (now() - t) / BLOCKS;
+}
+
+static void block(const char *name, size_t channels, bool looped, float rate, bool noise) {
+    size_t frames = looped ? 1000 : 128 * (BLOCKS + 2);
+    uint32_t *words = frames_of(channels * frames, noise);
+    double best = 1e300;
+    for (int turn = 0; turn < 3; turn++) {
+        double t = block_run(channels, frames, looped, rate, words);
+        if (t < best) best = t;
+    }
+    printf("%s-%zu %.0f\n", name, channels, best);
+    free(words);
+}
+
+/* The frames of unlooped blocks by memcpy, the limit for an aligned block. */
+static void limit(size_t channels) {
+    size_t frames = 128 * (BLOCKS + 2);
+    uint32_t *words = frames_of(channels * frames, true);
+    double best = 1e300;
+    for (int turn = 0; turn < 3; turn++) {
+        double t = now();
+        for (size_t n = 0; n < BLOCKS; n++) {
+            for (size_t c = 0; c < channels; c++) memcpy(out + 128 * c, words + c * frames + 128 * n, 512);
+            __asm__ volatile("" : : "r"(out) : "memory");
+        }
+        t = (now() - t) / BLOCKS;
+        if (t < best) best = t;
+    }
+    printf("memcpy-once-%zu %.0f\n", channels, best);
+    free(words);
+}
+
+static void blocks(void) {
+    size_t counts[] = {1, 2, 8, 32};
+    const char *names[] = {"aligned-once", "aligned-looped", "subsample-once", "subsample-looped"};
+    for (int kind = 0; kind < 4; kind++)
+        for (int c = 0; c < 4; c++) block(names[kind], counts[c], kind % 2, kind < 2 ? 1.0f : 0.75f, true);
+    block("subsample-whole-numbers", 32, false, 0.75f, false);
+    for (int c = 0; c < 4; c++) limit(counts[c]);
+}
+
+#define BEST(name, call) { \
+    double best = 1e300; \
+    for (int turn = 0; turn < 3; turn++) { \
+        double t = now(); \
+        call; \
+        __asm__ volatile("" : : : "memory"); \
+        t = now() - t; \
+        if (t < best) best = t; \
+    } \
+    printf("%s %.0f\n", name, best); }
+
+static void buffers(void) {
+    uint32_t *words = frames_of(2 * MILLION, true), *to = frames_of(3 * MILLION, true);
+    netthimble_shape source = {1, MILLION, 44100.0f};
+    size_t made = netthimble_converted_shape(source, MILLION, RATE).shape.frames;
+    BEST("copy-from-channel", must(netthimble_copy_from_channel(1, MILLION, words, MILLION, to, MILLION, 0, 0).refusal))
+    BEST("copy-to-channel", must(netthimble_copy_to_channel(1, MILLION, to, MILLION, words, MILLION, 0, 0).refusal))
+    BEST("memcpy-million", memcpy(to, words, 4 * MILLION))
+    BEST("convert-1", must(netthimble_convert(source, words, MILLION, RATE, to, made).refusal))
+    source.channels = 2;
+    BEST("convert-2", must(netthimble_convert(source, words, 2 * MILLION, RATE, to, 2 * made).refusal))
+    free(words);
+    free(to);
+}
+
+int main(void) {
+    blocks();
+    buffers();
+}
