@@ -1,0 +1,275 @@
+/* The C library by single calls: the records' bytes, refusals by number and in their order, what stays unchanged, slices up to their last
+ * element. Each lent slice ends at a page that nobody may touch. tests/c_cases builds and runs it. */
+#include <math.h>
+#include <stdio.h>
+#include <stdlib.h>
+#include <sys/mman.h>
+#include "netthimble.h"
+
+static int passed, failed;
+
+#define CHECK(fact) check((fact), #fact, __LINE__)
+
+static void check(bool ok, const char *what, int line) {
+    if (ok) passed++;
+    else printf("line %d: not so: %s\n", line, what), failed++;
+}
+
+/* `len` words, each set to `value`, up to a page that nobody may touch; never freed. */
+static uint32_t *lent(size_t len, uint32_t value) {
+    size_t page = 4096, room = (4 * len + page) / page * page;
+    char *at = (char *)mmap(NULL, room + page, PROT_READ | PROT_WRITE, MAP_PRIVATE | MAP_ANONYMOUS, -1, 0);
+    if (at == MAP_FAILED || mprotect(at + room, page, PROT_NONE) != 0) exit(3);
+    uint32_t *words = (uint32_t *)(void *)(at + room - 4 * len);
+    for (size_t i = 0; i < len; i++) words[i] = value;
+    return words;
+}
+
+static bool all(const uint32_t *words, size_t from, size_t to, uint32_t value) {
+    for (size_t i = from; i < to; i++)
+        if (words[i] != value) return false;
+    return true;
+}
+
+static netthimble_shape shape(size_t channels, size_t frames, float rate) {
+    netthimble_shape s;
+    s.channels = channels;
+    s.frames = frames;
+    s.rate = rate;
+    return s;
+}
+
+static bool same(const netthimble_player *a, const netthimble_player *b) {
+    return a->sample_rate == b->sample_rate && a->start_time == b->start_time && a->stop_time == b->stop_time && a->offset == b->offset
+        && a->duration == b->duration && a->loop_state.is_looping == b->loop_state.is_looping && a->loop_state.start == b->loop_state.start
+        && a->loop_state.end == b->loop_state.end && a->render_state.buffer_time == b->render_state.buffer_time
+        && a->render_state.started == b->render_state.started && a->render_state.entered_loop == b->render_state.entered_loop
+        && a->render_state.buffer_time_elapsed == b->render_state.buffer_time_elapsed && a->render_state.is_aligned == b->render_state.is_aligned
+        && a->render_state.ended == b->render_state.ended && a->has_start == b->has_start && a->has_buffer == b->has_buffer
+        && a->shape.channels == b->shape.channels && a->shape.frames == b->shape.frames && a->shape.rate == b->shape.rate
+        && a->has_block == b->has_block && a->block_time == b->block_time;
+}
+
+/* ---- the records' bytes. On x86-64 a large record is returned through a pointer that is passed first; so the library writes straight
+ * into the memory here, over bytes of two fillings: a byte that is the same after both was written. */
+
+typedef void (*any)(void);
+typedef void *(*returning)(void *, float);
+
+static unsigned char one[256], two[256];
+
+static bool written(size_t from, size_t size) {
+    for (size_t i = from; i < from + size; i++)
+        if (one[i] != two[i]) return false;
+    return true;
+}
+
+static void bytes(void) {
+    returning make = (returning)(any)netthimble_new;
+    memset(one, 0xAA, sizeof one);
+    memset(two, 0x55, sizeof two);
+    CHECK(make(one, 48000.0f) == one);
+    CHECK(make(two, 48000.0f) == two);
+    size_t at[] = {0, 8, 16, 24, 32, 40, 48, 56, 64, 72, 73, 80, 88, 89, 96, 97, 104, 112, 120, 128, 136, 144};
+    size_t size[] = {4, 8, 8, 8, 8, 1, 8, 8, 8, 1, 1, 8, 1, 1, 1, 1, 8, 8, 4, 1, 8, 4};
+    for (size_t i = 0; i < sizeof at / sizeof *at; i++) CHECK(written(at[i], size[i]));
+    for (size_t i = sizeof(netthimble_told); i < sizeof one; i++) CHECK(one[i] == 0xAA && two[i] == 0x55);
+    CHECK(netthimble_player_size() == sizeof(netthimble_player));
+    netthimble_told t;
+    memcpy(&t, one, sizeof t);
+    CHECK(t.refusal == 0 && t.player.sample_rate == 48000.0f);
+    CHECK(t.player.start_time == NETTHIMBLE_NEVER && t.player.stop_time == NETTHIMBLE_NEVER && t.player.duration == NETTHIMBLE_NEVER);
+    CHECK(t.player.offset == 0 && t.player.loop_state.start == 0 && t.player.loop_state.end == 0 && t.player.render_state.buffer_time == 0);
+    CHECK(!t.player.loop_state.is_looping && !t.player.render_state.ended && !t.player.has_start && !t.player.has_buffer && !t.player.has_block);
+}
+
+/* ---- players */
+
+static void rates(void) {
+    float bad[] = {0.0f, -48000.0f, 2999.0f, 768001.0f, NAN, INFINITY, -INFINITY};
+    for (size_t i = 0; i < sizeof bad / sizeof *bad; i++) CHECK(netthimble_new(bad[i]).refusal == 2);
+    CHECK(netthimble_new(3000.0f).refusal == 0 && netthimble_new(768000.0f).refusal == 0);
+    /* the player of a refused rate never plays */
+    netthimble_player nobody = netthimble_new(NAN).player;
+    uint32_t *out = lent(4096, 7), *frame = lent(1, 7);
+    CHECK(nobody.render_state.ended);
+    CHECK(netthimble_start(nobody, 0, 0, 1).refusal == 10);
+    CHECK(netthimble_set_buffer(nobody, 1, 1, 48000.0f, frame, 1).refusal == 10);
+    CHECK(netthimble_process(nobody, out, 4096, NULL, 0, 0, 1, 1).refusal == 1);
+    CHECK(netthimble_process(nobody, out, 4096, frame, 1, 0, 1, 1).refusal == 1);
+    CHECK(all(out, 0, 4096, 7));
+}
+
+static void messages(void) {
+    netthimble_player fresh, p, q;
+    double bad[] = {NAN, INFINITY, -INFINITY, -1.0, -4.9e-324};
+    CHECK(netthimble_player_new(&fresh, 48000.0f) == 0);
+    CHECK(netthimble_stop(fresh, 1).refusal == 11);
+    CHECK(netthimble_stop(fresh, -1).refusal == 9);
+    CHECK(netthimble_player_start(&fresh, -0.0, 0, NETTHIMBLE_NEVER) == 0);
+    CHECK(netthimble_player_new(&fresh, 48000.0f) == 0);
+    for (size_t i = 0; i < 5; i++) {
+        p = fresh;
+        CHECK(netthimble_player_start(&p, bad[i], 0, 1) == 9);
+        CHECK(netthimble_player_start(&p, 0, bad[i], 1) == 9);
+        CHECK(netthimble_player_start(&p, 0, 0, bad[i]) == 9);
+        CHECK(netthimble_player_stop(&p, bad[i]) == 9);
+        CHECK(netthimble_player_loop_start(&p, bad[i]) == (i < 3 ? 9u : 0u));
+        CHECK(netthimble_player_loop_end(&p, bad[i]) == (i < 3 ? 9u : 0u));
+        CHECK(i >= 3 || same(&p, &fresh));
+        netthimble_told t = netthimble_start(fresh, bad[i], 0, 1);
+        CHECK(t.refusal == 9 && same(&t.player, &fresh));
+    }
+    p = fresh;
+    CHECK(netthimble_player_start(&p, 1, 2, 3) == 0);
+    CHECK(p.start_time == 1 && p.offset == 2 && p.duration == 3 && p.has_start && !same(&p, &fresh));
+    q = p;
+    CHECK(netthimble_player_start(&p, 4, 5, 6) == 10);
+    CHECK(netthimble_player_start(&p, -4, 5, 6) == 9);
+    CHECK(same(&p, &q));
+    CHECK(netthimble_player_stop(&p, 9) == 0 && p.stop_time == 9);
+    CHECK(netthimble_player_loop(&p, true) == 0 && p.loop_state.is_looping);
+    CHECK(netthimble_player_loop(&p, false) == 0 && !p.loop_state.is_looping);
+    CHECK(netthimble_player_loop_start(&p, 0.25) == 0 && p.loop_state.start == 0.25);
+    CHECK(netthimble_player_loop_end(&p, 0.5) == 0 && p.loop_state.end == 0.5);
+}
+
+static void buffer_call(void) {
+    netthimble_player fresh, p;
+    uint32_t *samples = lent(6, 0x3F800000);
+    CHECK(netthimble_player_new(&fresh, 48000.0f) == 0);
+    p = fresh;
+    CHECK(netthimble_player_set_buffer(&p, shape(0, 6, 48000.0f), samples, 6) == 1);
+    CHECK(netthimble_player_set_buffer(&p, shape(33, 6, 48000.0f), samples, 6) == 1);
+    CHECK(netthimble_player_set_buffer(&p, shape(1, 16777217, 48000.0f), samples, 6) == 1);
+    CHECK(netthimble_player_set_buffer(&p, shape((size_t)1 << 63, 2, 48000.0f), samples, 0) == 1);
+    CHECK(netthimble_player_set_buffer(&p, shape(2, 3, 48000.0f), samples, 5) == 1);
+    CHECK(netthimble_player_set_buffer(&p, shape(2, 3, NAN), samples, 5) == 1);
+    CHECK(netthimble_player_set_buffer(&p, shape(2, 3, NAN), samples, 6) == 2);
+    CHECK(netthimble_player_set_buffer(&p, shape(2, 0, 48000.0f), NULL, 0) == 12);
+    CHECK(same(&p, &fresh));
+    CHECK(netthimble_player_set_buffer(&p, shape(2, 3, 24000.0f), samples, 6) == 0);
+    CHECK(p.has_buffer && p.shape.channels == 2 && p.shape.frames == 3 && p.shape.rate == 24000.0f && p.loop_state.end == 3.0 / 24000.0);
+    CHECK(netthimble_player_set_buffer(&p, shape(2, 0, 48000.0f), NULL, 0) == 10);
+    CHECK(all(samples, 0, 6, 0x3F800000));
+}
+
+static void blocks(void) {
+    netthimble_player p, q;
+    netthimble_block b;
+    uint32_t *samples = lent(6, 0), *out = lent(4097, 7);
+    for (uint32_t i = 0; i < 6; i++) samples[i] = i + 1;
+    CHECK(netthimble_player_new(&p, 48000.0f) == 0);
+    /* without a buffer no samples are lent: silence, nothing plays */
+    b = netthimble_process(p, out + 1, 4096, NULL, 0, 0, 1, 1);
+    CHECK(b.refusal == 0 && !b.keep_alive && !b.ended && b.channels == 1 && b.position == 0);
+    CHECK(all(out, 1, 129, 0) && all(out, 129, 4097, 7));
+    CHECK(netthimble_process(p, out + 1, 4096, samples, 6, 0, 1, 1).refusal == 1);
+    CHECK(netthimble_player_set_buffer(&p, shape(2, 3, 48000.0f), samples, 6) == 0);
+    CHECK(netthimble_player_start(&p, 0, 0, NETTHIMBLE_NEVER) == 0);
+    CHECK(netthimble_player_loop(&p, true) == 0);
+    q = p;
+    for (size_t i = 0; i < 4097; i++) out[i] = 7;
+    /* refusals in their order: 8, 13, 14, 1 */
+    double bad_time[] = {NAN, INFINITY, -INFINITY, -1, 1073741824.5};
+    double bad_factor[] = {NAN, 0, -1, INFINITY, 2.6e-20, 3.7e19};
+    CHECK(netthimble_player_process(&p, out, 4097, samples, 5, NAN, NAN, NAN, &b) == 8);
+    CHECK(netthimble_player_process(&p, out, 4095, samples, 6, 0, 1, 1, &b) == 8);
+    CHECK(netthimble_player_process(&p, NULL, 0, samples, 6, 0, 1, 1, &b) == 8);
+    for (size_t i = 0; i < 5; i++) CHECK(netthimble_player_process(&p, out + 1, 4096, samples, 5, bad_time[i], NAN, 1, &b) == 13);
+    for (size_t i = 0; i < 6; i++) CHECK(netthimble_player_process(&p, out + 1, 4096, samples, 5, 0, 1, bad_factor[i], &b) == 14);
+    CHECK(netthimble_player_process(&p, out + 1, 4096, samples, 5, 0, NAN, 1, &b) == 14);
+    CHECK(netthimble_player_process(&p, out + 1, 4096, samples, 5, 0, INFINITY, 1, &b) == 14);
+    CHECK(netthimble_player_process(&p, out + 1, 4096, samples, 5, 0, 1, 1, &b) == 1);
+    CHECK(netthimble_player_process(&p, out + 1, 4096, NULL, 0, 0, 1, 1, &b) == 1);
+    CHECK(same(&b.player, &q) && !b.keep_alive && !b.ended && b.channels == 0 && b.position == 0);
+    CHECK(same(&p, &q) && all(out, 0, 4097, 7));
+    /* an accepted block: two channels, each looped; all else untouched */
+    CHECK(netthimble_player_process(&p, out + 1, 4096, samples, 6, 0, 1, 1, &b) == 0);
+    bool looped = true;
+    for (uint32_t i = 0; i < 128; i++) looped = looped && out[1 + i] == i % 3 + 1 && out[129 + i] == i % 3 + 4;
+    CHECK(looped && out[0] == 7 && all(out, 257, 4097, 7));
+    CHECK(b.keep_alive && !b.ended && b.channels == 2 && b.position == p.render_state.buffer_time && same(&b.player, &p));
+    CHECK(netthimble_player_process(&p, out + 1, 4096, samples, 6, 0, 1, 1, &b) == 13);
+    CHECK(netthimble_player_process(&p, out + 1, 4096, samples, 6, 128.0 / 48000.0, 0.5f, 1, &b) == 0);
+    CHECK(b.channels == 2 && !p.render_state.is_aligned);
+}
+
+/* ---- clips and buffers */
+
+static void clips(void) {
+    unsigned char file[] = {16, 0, 1, 0, 2, 0, 0, 0, 0, 0x80, 0x3B, 0x47, 16, 0, 0, 0, 1, 2, 3, 4, 5, 6, 7, 8};
+    uint32_t *samples = lent(2, 7);
+    netthimble_shaped r = netthimble_clip_shape(file, sizeof file);
+    CHECK(r.refusal == 0 && r.shape.channels == 1 && r.shape.frames == 2 && r.shape.rate == 48000.0f);
+    for (size_t n = 0; n < sizeof file; n++) CHECK(netthimble_clip_shape(file, n).refusal == 15);
+    CHECK(netthimble_clip_shape(NULL, 0).refusal == 15);
+    r = netthimble_clip_shape(file, 12);
+    CHECK(r.shape.channels == 0 && r.shape.frames == 0 && r.shape.rate == 0.0f);
+    CHECK(netthimble_clip_frames(file, sizeof file - 1, samples, 1) == 15);
+    CHECK(netthimble_clip_frames(file, sizeof file, samples, 1) == 8);
+    CHECK(netthimble_clip_frames(file, sizeof file, NULL, 0) == 8);
+    CHECK(all(samples, 0, 2, 7));
+    CHECK(netthimble_clip_frames(file, sizeof file, samples, 2) == 0);
+    CHECK(samples[0] == 0x04030201 && samples[1] == 0x08070605);
+    file[11] = 0;
+    CHECK(netthimble_clip_frames(file, sizeof file, samples, 1) == 2);
+}
+
+static void copies(void) {
+    uint32_t *samples = lent(8, 0), *some = lent(3, 9);
+    for (uint32_t i = 0; i < 8; i++) samples[i] = i;
+    netthimble_copy r = netthimble_copy_from_channel(2, 4, samples, 8, some, 3, 1, 3);
+    CHECK(r.refusal == 0 && r.count == 1 && some[0] == 7 && some[1] == 9 && some[2] == 9);
+    r = netthimble_copy_from_channel(2, 4, samples, 8, some, 3, 1, SIZE_MAX);
+    CHECK(r.refusal == 0 && r.count == 0 && some[0] == 7);
+    r = netthimble_copy_from_channel(2, 4, samples, 7, some, 3, 2, 0);
+    CHECK(r.refusal == 1 && r.count == 0);
+    CHECK(netthimble_copy_from_channel(2, 4, samples, 8, some, 3, 2, 0).refusal == 3);
+    CHECK(netthimble_copy_from_channel(2, 4, samples, 8, NULL, 0, 1, 0).count == 0);
+    CHECK(some[0] == 7 && some[1] == 9 && some[2] == 9);
+    r = netthimble_copy_to_channel(2, 4, samples, 8, some, 3, 1, 2);
+    CHECK(r.refusal == 0 && r.count == 2 && samples[5] == 5 && samples[6] == 7 && samples[7] == 9);
+    CHECK(netthimble_copy_to_channel(2, 4, samples, 8, some, 3, SIZE_MAX, 0).refusal == 3);
+    CHECK(netthimble_copy_to_channel(0, 4, samples, 8, some, 3, 0, 0).refusal == 1);
+    CHECK(samples[0] == 0 && samples[4] == 4 && samples[6] == 7 && samples[7] == 9);
+}
+
+static void buffers(void) {
+    netthimble_shape a = shape(1, 2, 24000.0f), b = shape(1, 2, 48000.0f), odd = shape(1, 2, 0.0f);
+    uint32_t *samples = lent(2, 0), *out = lent(4, 7), *half = lent(1, 7);
+    samples[1] = netthimble_bits(3.0f);
+    netthimble_shaped r = netthimble_convert(a, samples, 2, 48000.0f, out, 4);
+    CHECK(r.refusal == 0 && r.shape.channels == 1 && r.shape.frames == 4 && r.shape.rate == 48000.0f);
+    for (int i = 0; i < 4; i++) CHECK(netthimble_float(out[i]) == (float)i);
+    CHECK(netthimble_convert(a, samples, 2, 48000.0f, out, 3).refusal == 8);
+    CHECK(netthimble_convert(a, samples, 1, NAN, out, 3).refusal == 1);
+    CHECK(netthimble_convert(a, samples, 2, NAN, out, 3).refusal == 2);
+    CHECK(netthimble_converted_shape(shape(1, 16777216, 3000.0f), 16777216, 768000.0f).refusal == 7);
+    CHECK(netthimble_converted_shape(shape(1, 2, 48000.0f), 2, 24000.0f).refusal == 6);
+    CHECK(netthimble_extend(a, samples, 2, b, samples, 2, out, 4).refusal == 4);
+    CHECK(netthimble_extend(a, samples, 2, odd, samples, 2, out, 4).refusal == 2);
+    CHECK(netthimble_extend(a, samples, 2, a, samples, 2, out, 3).refusal == 8);
+    CHECK(netthimble_extended_shape(shape(1, 16777216, 48000.0f), 16777216, shape(1, 1, 48000.0f), 1).refusal == 7);
+    CHECK(netthimble_float(out[3]) == 3.0f);
+    r = netthimble_extend(a, samples, 2, a, samples, 2, out, 4);
+    CHECK(r.refusal == 0 && r.shape.frames == 4 && out[1] == out[3] && out[0] == 0 && out[2] == 0);
+    netthimble_parts s = netthimble_split(a, samples, 2, 1, half, 1, out + 3, 1);
+    CHECK(s.refusal == 0 && s.first.frames == 1 && s.rest.frames == 1 && s.first.rate == 24000.0f && half[0] == 0 && out[3] == samples[1]);
+    CHECK(netthimble_split(a, samples, 2, 3, half, 1, out + 3, 1).refusal == 5);
+    CHECK(netthimble_split(a, samples, 2, 2, half, 1, out + 3, 1).refusal == 8);
+    CHECK(netthimble_split_shapes(a, 3, 1).refusal == 1);
+}
+
+int main(void) {
+    bytes();
+    rates();
+    messages();
+    buffer_call();
+    blocks();
+    clips();
+    copies();
+    buffers();
+    printf("cases: %d passed, %d failed\n", passed, failed);
+    return failed != 0;
+}
