@@ -5,16 +5,16 @@
  * Every function of the library is proved equal to its definition (crates/netthimble), refusals included. This header, its records'
  * layout and its inline forms are tested, not proved (tests/c_cases).
  *
- * Records go in and come back by value. An answer has `refusal`: 0 if the call is accepted, else a number of the table below. A refused
- * call gives back the same player and leaves all lent memory as it was; what else its answer holds is zero. The library keeps no
- * pointer, allocates nothing, has no state of its own: two threads may each have players, and one player may be copied by assignment.
+ * An answer has `refusal`, or is it: 0 if the call is accepted, else a number of the table below. A refused call leaves the player and all
+ * lent memory as they were; what else its answer holds is zero. The library keeps no pointer, allocates nothing, has no state of its own:
+ * two threads may each have players, and one player may be copied by assignment.
  *
  * Samples are f32 bit patterns in uint32_t, channels one after another (netthimble_float and netthimble_bits convert one). The same
  * memory may be handed in as float * by a cast.
  *
  * What C can break. The proofs hold for what a Rattle program could pass. A C program must see to it that
- *   - each pointer leads to as many elements as the length beside it, aligned, and is not null (with the length 0 it is never followed,
- *     and may be null);
+ *   - a player's pointer leads to one, and each other pointer to as many elements as the length beside it; aligned, and not null (with
+ *     the length 0 it is never followed, and may be null);
  *   - memory that a call writes (`out`, `destination`, ..) overlaps no other memory lent to the same call, and no other thread touches it;
  *   - memory that a call reads is written by nobody meanwhile;
  *   - a bool is 0 or 1, in an argument and in a record;
@@ -104,12 +104,11 @@ typedef struct {
 
 /* What a block answers. The position is that after the block, in seconds of the clip. */
 typedef struct {
-    netthimble_player player;
+    double position;
+    size_t channels;
     uint32_t refusal;
     bool keep_alive;
     bool ended;
-    size_t channels;
-    double position;
 } netthimble_block;
 
 /* The shape of a clip, or of a buffer that is made. */
@@ -168,12 +167,12 @@ NETTHIMBLE_AT(player, has_block, has_block, 128);
 NETTHIMBLE_AT(player, block_time, block_time, 136);
 NETTHIMBLE_HOLDS(told_size, sizeof(netthimble_told) == 152);
 NETTHIMBLE_AT(told, refusal, refusal, 144);
-NETTHIMBLE_HOLDS(block_size, sizeof(netthimble_block) == 168);
-NETTHIMBLE_AT(block, refusal, refusal, 144);
-NETTHIMBLE_AT(block, keep_alive, keep_alive, 148);
-NETTHIMBLE_AT(block, ended, ended, 149);
-NETTHIMBLE_AT(block, channels, channels, 152);
-NETTHIMBLE_AT(block, position, position, 160);
+NETTHIMBLE_HOLDS(block_size, sizeof(netthimble_block) == 24);
+NETTHIMBLE_AT(block, position, position, 0);
+NETTHIMBLE_AT(block, channels, channels, 8);
+NETTHIMBLE_AT(block, refusal, refusal, 16);
+NETTHIMBLE_AT(block, keep_alive, keep_alive, 20);
+NETTHIMBLE_AT(block, ended, ended, 21);
 NETTHIMBLE_HOLDS(shaped_size, sizeof(netthimble_shaped) == 32);
 NETTHIMBLE_AT(shaped, refusal, refusal, 24);
 NETTHIMBLE_HOLDS(parts_size, sizeof(netthimble_parts) == 56);
@@ -207,13 +206,14 @@ netthimble_told netthimble_loop_start(netthimble_player player, double at);
 netthimble_told netthimble_loop_end(netthimble_player player, double at);
 
 /* Gives the player its clip: `channels` channels of `frames` frames, at `rate`, in `samples`. The samples are only counted; the same
- * ones are to be lent to each block. Refused: 1, 2, 10, 12. */
-netthimble_told netthimble_set_buffer(netthimble_player player, size_t channels, size_t frames, float rate, const uint32_t *samples, size_t samples_len);
+ * ones are to be lent to each block. Returns the refusal's number, 0 for none. Refused: 1, 2, 10, 12; *player is then as it was. */
+uint32_t netthimble_player_set_buffer(netthimble_player *player, size_t channels, size_t frames, float rate, const uint32_t *samples, size_t samples_len);
 
 /* Renders the block at `time` seconds of the context, which lasts 128 / sample rate, into `out`: channel c of the answered channels stands at
  * out[128 * c]; channels at and beyond the answered count are untouched. `samples` are the clip's (length 0 without one), `rate` is the
- * playback rate, and `factor` multiplies it (2^(cents / 1200) for a detune, 1 for none). Refused: 8, 13, 14, 1; `out` is then untouched. */
-netthimble_block netthimble_process(netthimble_player player, uint32_t *out, size_t out_len, const uint32_t *samples, size_t samples_len, double time, float rate, double factor);
+ * playback rate, and `factor` multiplies it (2^(cents / 1200) for a detune, 1 for none). Refused: 8, 13, 14, 1; *player and `out` are then
+ * as they were. */
+netthimble_block netthimble_player_process(netthimble_player *player, uint32_t *out, size_t out_len, const uint32_t *samples, size_t samples_len, double time, float rate, double factor);
 
 /* ---- the clip file */
 
@@ -252,8 +252,8 @@ netthimble_shaped netthimble_converted_shape(netthimble_shape shape, size_t len,
 /* Converts a buffer to another rate, into `out`, which is exactly the result's length. Refused: 1, 2, 7, 6, 8; `out` is then untouched. */
 netthimble_shaped netthimble_convert(netthimble_shape shape, const uint32_t *samples, size_t samples_len, float rate, uint32_t *out, size_t out_len);
 
-/* ---- the same with the player behind a pointer: each stores the player that the call leaves, and returns the refusal's number, 0 for
- * none. Where the call is refused, *player stays as it was. */
+/* ---- the messages with the player behind a pointer: each stores the player that the call leaves, and returns the refusal's number, 0
+ * for none. Where the call is refused, *player stays as it was. */
 
 static inline uint32_t netthimble_keep(netthimble_player *player, netthimble_told told) {
     if (told.refusal == 0) *player = told.player;
@@ -285,17 +285,6 @@ static inline uint32_t netthimble_player_loop_start(netthimble_player *player, d
 
 static inline uint32_t netthimble_player_loop_end(netthimble_player *player, double at) {
     return netthimble_keep(player, netthimble_loop_end(*player, at));
-}
-
-static inline uint32_t netthimble_player_set_buffer(netthimble_player *player, netthimble_shape shape, const uint32_t *samples, size_t samples_len) {
-    return netthimble_keep(player, netthimble_set_buffer(*player, shape.channels, shape.frames, shape.rate, samples, samples_len));
-}
-
-/* *answer is stored in any case, and holds the player too. */
-static inline uint32_t netthimble_player_process(netthimble_player *player, uint32_t *out, size_t out_len, const uint32_t *samples, size_t samples_len, double time, float rate, double factor, netthimble_block *answer) {
-    *answer = netthimble_process(*player, out, out_len, samples, samples_len, time, rate, factor);
-    if (answer->refusal == 0) *player = answer->player;
-    return answer->refusal;
 }
 
 /* ---- a sample's value and its bits */

@@ -39,7 +39,7 @@ static netthimble_player begun(size_t channels, size_t frames, bool looped, cons
     netthimble_told made = netthimble_new(RATE);
     netthimble_player p = made.player;
     must(made.refusal);
-    must(netthimble_set_buffer(&p, channels, frames, RATE, words, channels * frames));
+    must(netthimble_player_set_buffer(&p, channels, frames, RATE, words, channels * frames));
     must(netthimble_player_loop(&p, looped));
     must(netthimble_player_start(&p, 0.0, 0.0, 1.7976931348623157e308));
     return p;
@@ -49,7 +49,7 @@ static double block_run(size_t channels, size_t frames, bool looped, float rate,
     netthimble_player p = begun(channels, frames, looped, words);
     double t = now();
     for (size_t n = 0; n < BLOCKS; n++) {
-        must(netthimble_process(&p, out, 4096, words, channels * frames, (double)(128 * n) / RATE, rate, 1.0).refusal);
+        must(netthimble_player_process(&p, out, 4096, words, channels * frames, (double)(128 * n) / RATE, rate, 1.0).refusal);
     }
     return (now() - t) / BLOCKS;
 }

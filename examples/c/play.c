@@ -33,7 +33,7 @@ int main(int count, char **words) {
     /* a player at the clip's rate, started at 0 and looped */
     netthimble_player player;
     if ((refusal = netthimble_player_new(&player, clip.shape.rate)) != 0) return refused("new", refusal);
-    if ((refusal = netthimble_player_set_buffer(&player, clip.shape, samples, samples_len)) != 0) return refused("set_buffer", refusal);
+    if ((refusal = netthimble_player_set_buffer(&player, clip.shape.channels, clip.shape.frames, clip.shape.rate, samples, samples_len)) != 0) return refused("set_buffer", refusal);
     if ((refusal = netthimble_player_start(&player, 0.0, 0.0, NETTHIMBLE_NEVER)) != 0) return refused("start", refusal);
     if ((refusal = netthimble_player_loop(&player, true)) != 0) return refused("loop", refusal);
 
@@ -42,11 +42,10 @@ int main(int count, char **words) {
 
     /* five blocks, and a stop inside the fifth */
     for (int n = 0; n < 5; n++) {
-        netthimble_block block;
         double time = 128.0 * n / clip.shape.rate;
         if (n == 4) netthimble_player_stop(&player, time + 64.0 / clip.shape.rate);
-        refusal = netthimble_player_process(&player, out, NETTHIMBLE_OUT, samples, samples_len, time, 1.0f, 1.0, &block);
-        if (refusal != 0) return refused("block", refusal);
+        netthimble_block block = netthimble_player_process(&player, out, NETTHIMBLE_OUT, samples, samples_len, time, 1.0f, 1.0);
+        if (block.refusal != 0) return refused("block", block.refusal);
         printf("block %d: %08X %08X %08X .. %08X, position %.9f, ended %d\n", n, (unsigned)out[0], (unsigned)out[1], (unsigned)out[2], (unsigned)out[127], block.position, block.ended);
     }
     free(samples);

@@ -94,9 +94,9 @@ static void rates(void) {
     uint32_t *out = lent(4096, 7), *frame = lent(1, 7);
     CHECK(nobody.render_state.ended);
     CHECK(netthimble_start(nobody, 0, 0, 1).refusal == 10);
-    CHECK(netthimble_set_buffer(nobody, 1, 1, 48000.0f, frame, 1).refusal == 10);
-    CHECK(netthimble_process(nobody, out, 4096, NULL, 0, 0, 1, 1).refusal == 1);
-    CHECK(netthimble_process(nobody, out, 4096, frame, 1, 0, 1, 1).refusal == 1);
+    CHECK(netthimble_player_set_buffer(&nobody, 1, 1, 48000.0f, frame, 1) == 10);
+    CHECK(netthimble_player_process(&nobody, out, 4096, NULL, 0, 0, 1, 1).refusal == 1);
+    CHECK(netthimble_player_process(&nobody, out, 4096, frame, 1, 0, 1, 1).refusal == 1);
     CHECK(all(out, 0, 4096, 7));
 }
 
@@ -139,18 +139,18 @@ static void buffer_call(void) {
     uint32_t *samples = lent(6, 0x3F800000);
     CHECK(netthimble_player_new(&fresh, 48000.0f) == 0);
     p = fresh;
-    CHECK(netthimble_player_set_buffer(&p, shape(0, 6, 48000.0f), samples, 6) == 1);
-    CHECK(netthimble_player_set_buffer(&p, shape(33, 6, 48000.0f), samples, 6) == 1);
-    CHECK(netthimble_player_set_buffer(&p, shape(1, 16777217, 48000.0f), samples, 6) == 1);
-    CHECK(netthimble_player_set_buffer(&p, shape((size_t)1 << 63, 2, 48000.0f), samples, 0) == 1);
-    CHECK(netthimble_player_set_buffer(&p, shape(2, 3, 48000.0f), samples, 5) == 1);
-    CHECK(netthimble_player_set_buffer(&p, shape(2, 3, NAN), samples, 5) == 1);
-    CHECK(netthimble_player_set_buffer(&p, shape(2, 3, NAN), samples, 6) == 2);
-    CHECK(netthimble_player_set_buffer(&p, shape(2, 0, 48000.0f), NULL, 0) == 12);
+    CHECK(netthimble_player_set_buffer(&p, 0, 6, 48000.0f, samples, 6) == 1);
+    CHECK(netthimble_player_set_buffer(&p, 33, 6, 48000.0f, samples, 6) == 1);
+    CHECK(netthimble_player_set_buffer(&p, 1, 16777217, 48000.0f, samples, 6) == 1);
+    CHECK(netthimble_player_set_buffer(&p, (size_t)1 << 63, 2, 48000.0f, samples, 0) == 1);
+    CHECK(netthimble_player_set_buffer(&p, 2, 3, 48000.0f, samples, 5) == 1);
+    CHECK(netthimble_player_set_buffer(&p, 2, 3, NAN, samples, 5) == 1);
+    CHECK(netthimble_player_set_buffer(&p, 2, 3, NAN, samples, 6) == 2);
+    CHECK(netthimble_player_set_buffer(&p, 2, 0, 48000.0f, NULL, 0) == 12);
     CHECK(same(&p, &fresh));
-    CHECK(netthimble_player_set_buffer(&p, shape(2, 3, 24000.0f), samples, 6) == 0);
+    CHECK(netthimble_player_set_buffer(&p, 2, 3, 24000.0f, samples, 6) == 0);
     CHECK(p.has_buffer && p.shape.channels == 2 && p.shape.frames == 3 && p.shape.rate == 24000.0f && p.loop_state.end == 3.0 / 24000.0);
-    CHECK(netthimble_player_set_buffer(&p, shape(2, 0, 48000.0f), NULL, 0) == 10);
+    CHECK(netthimble_player_set_buffer(&p, 2, 0, 48000.0f, NULL, 0) == 10);
     CHECK(all(samples, 0, 6, 0x3F800000));
 }
 
@@ -161,11 +161,12 @@ static void blocks(void) {
     for (uint32_t i = 0; i < 6; i++) samples[i] = i + 1;
     CHECK(netthimble_player_new(&p, 48000.0f) == 0);
     /* without a buffer no samples are lent: silence, nothing plays */
-    b = netthimble_process(p, out + 1, 4096, NULL, 0, 0, 1, 1);
+    q = p;
+    b = netthimble_player_process(&q, out + 1, 4096, NULL, 0, 0, 1, 1);
     CHECK(b.refusal == 0 && !b.keep_alive && !b.ended && b.channels == 1 && b.position == 0);
     CHECK(all(out, 1, 129, 0) && all(out, 129, 4097, 7));
-    CHECK(netthimble_process(p, out + 1, 4096, samples, 6, 0, 1, 1).refusal == 1);
-    CHECK(netthimble_player_set_buffer(&p, shape(2, 3, 48000.0f), samples, 6) == 0);
+    CHECK(netthimble_player_process(&p, out + 1, 4096, samples, 6, 0, 1, 1).refusal == 1);
+    CHECK(netthimble_player_set_buffer(&p, 2, 3, 48000.0f, samples, 6) == 0);
     CHECK(netthimble_player_start(&p, 0, 0, NETTHIMBLE_NEVER) == 0);
     CHECK(netthimble_player_loop(&p, true) == 0);
     q = p;
@@ -173,25 +174,25 @@ static void blocks(void) {
     /* refusals in their order: 8, 13, 14, 1 */
     double bad_time[] = {NAN, INFINITY, -INFINITY, -1, 1073741824.5};
     double bad_factor[] = {NAN, 0, -1, INFINITY, 2.6e-20, 3.7e19};
-    CHECK(netthimble_player_process(&p, out, 4097, samples, 5, NAN, NAN, NAN, &b) == 8);
-    CHECK(netthimble_player_process(&p, out, 4095, samples, 6, 0, 1, 1, &b) == 8);
-    CHECK(netthimble_player_process(&p, NULL, 0, samples, 6, 0, 1, 1, &b) == 8);
-    for (size_t i = 0; i < 5; i++) CHECK(netthimble_player_process(&p, out + 1, 4096, samples, 5, bad_time[i], NAN, 1, &b) == 13);
-    for (size_t i = 0; i < 6; i++) CHECK(netthimble_player_process(&p, out + 1, 4096, samples, 5, 0, 1, bad_factor[i], &b) == 14);
-    CHECK(netthimble_player_process(&p, out + 1, 4096, samples, 5, 0, NAN, 1, &b) == 14);
-    CHECK(netthimble_player_process(&p, out + 1, 4096, samples, 5, 0, INFINITY, 1, &b) == 14);
-    CHECK(netthimble_player_process(&p, out + 1, 4096, samples, 5, 0, 1, 1, &b) == 1);
-    CHECK(netthimble_player_process(&p, out + 1, 4096, NULL, 0, 0, 1, 1, &b) == 1);
-    CHECK(same(&b.player, &q) && !b.keep_alive && !b.ended && b.channels == 0 && b.position == 0);
+    CHECK((b = netthimble_player_process(&p, out, 4097, samples, 5, NAN, NAN, NAN)).refusal == 8);
+    CHECK((b = netthimble_player_process(&p, out, 4095, samples, 6, 0, 1, 1)).refusal == 8);
+    CHECK((b = netthimble_player_process(&p, NULL, 0, samples, 6, 0, 1, 1)).refusal == 8);
+    for (size_t i = 0; i < 5; i++) CHECK((b = netthimble_player_process(&p, out + 1, 4096, samples, 5, bad_time[i], NAN, 1)).refusal == 13);
+    for (size_t i = 0; i < 6; i++) CHECK((b = netthimble_player_process(&p, out + 1, 4096, samples, 5, 0, 1, bad_factor[i])).refusal == 14);
+    CHECK((b = netthimble_player_process(&p, out + 1, 4096, samples, 5, 0, NAN, 1)).refusal == 14);
+    CHECK((b = netthimble_player_process(&p, out + 1, 4096, samples, 5, 0, INFINITY, 1)).refusal == 14);
+    CHECK((b = netthimble_player_process(&p, out + 1, 4096, samples, 5, 0, 1, 1)).refusal == 1);
+    CHECK((b = netthimble_player_process(&p, out + 1, 4096, NULL, 0, 0, 1, 1)).refusal == 1);
+    CHECK(!b.keep_alive && !b.ended && b.channels == 0 && b.position == 0);
     CHECK(same(&p, &q) && all(out, 0, 4097, 7));
     /* an accepted block: two channels, each looped; all else untouched */
-    CHECK(netthimble_player_process(&p, out + 1, 4096, samples, 6, 0, 1, 1, &b) == 0);
+    CHECK((b = netthimble_player_process(&p, out + 1, 4096, samples, 6, 0, 1, 1)).refusal == 0);
     bool looped = true;
     for (uint32_t i = 0; i < 128; i++) looped = looped && out[1 + i] == i % 3 + 1 && out[129 + i] == i % 3 + 4;
     CHECK(looped && out[0] == 7 && all(out, 257, 4097, 7));
-    CHECK(b.keep_alive && !b.ended && b.channels == 2 && b.position == p.render_state.buffer_time && same(&b.player, &p));
-    CHECK(netthimble_player_process(&p, out + 1, 4096, samples, 6, 0, 1, 1, &b) == 13);
-    CHECK(netthimble_player_process(&p, out + 1, 4096, samples, 6, 128.0 / 48000.0, 0.5f, 1, &b) == 0);
+    CHECK(b.keep_alive && !b.ended && b.channels == 2 && b.position == p.render_state.buffer_time);
+    CHECK((b = netthimble_player_process(&p, out + 1, 4096, samples, 6, 0, 1, 1)).refusal == 13);
+    CHECK((b = netthimble_player_process(&p, out + 1, 4096, samples, 6, 128.0 / 48000.0, 0.5f, 1)).refusal == 0);
     CHECK(b.channels == 2 && !p.render_state.is_aligned);
 }
 

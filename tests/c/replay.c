@@ -37,7 +37,7 @@ static netthimble_shape shape(size_t channels, size_t frames, float sample_rate)
 /* ---- the calls, once their words are there */
 
 static void set_buffer(void) {
-    uint32_t refusal = netthimble_player_set_buffer(&player, shape(number[0], number[1], rate[0]), words, needed);
+    uint32_t refusal = netthimble_player_set_buffer(&player, number[0], number[1], rate[0], words, needed);
     if (refusal != 0) {
         refused(refusal);
         return;
@@ -204,16 +204,15 @@ static bool block(const word *w, size_t count) {
     float speed;
     size_t out_len = NETTHIMBLE_OUT, len = clip_len;
     const uint32_t *samples = clip;
-    netthimble_block b;
     if (count < 4 || count > 6 || !is(w[0], "B") || !f64_word(w[1], &time) || !f32_word(w[2], &speed) || !f64_word(w[3], &factor)) return false;
     if (count > 4 && (!dec(w[4], &out_len) || out_len > MOST_OUT)) return false;
     if (count > 5 && (!dec(w[5], &len) || len > MOST_SAMPLES)) return false;
     if (len != clip_len && len != 0) samples = (const uint32_t *)mmap(NULL, 4 * len, PROT_READ, MAP_PRIVATE | MAP_ANONYMOUS | MAP_NORESERVE, -1, 0);
     if (samples == MAP_FAILED) exit(3);
-    uint32_t refusal = netthimble_player_process(&player, out, out_len, samples, len, time, speed, factor, &b);
+    netthimble_block b = netthimble_player_process(&player, out, out_len, samples, len, time, speed, factor);
     if (len != clip_len && len != 0) munmap((void *)samples, 4 * len);
-    if (refusal != 0) {
-        refused(refusal);
+    if (b.refusal != 0) {
+        refused(b.refusal);
         return true;
     }
     printf("B %d %d %zu %016" PRIX64 "\n", b.keep_alive, b.ended, b.channels, bits64(b.position));

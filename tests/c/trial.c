@@ -32,7 +32,7 @@ int main(void) {
     uint32_t refusal = clip.refusal;
     if (refusal == 0) refusal = netthimble_clip_frames((const uint8_t *)file, file_len, samples, samples_len);
     if (refusal == 0) refusal = netthimble_player_new(&p, clip.shape.rate);
-    if (refusal == 0) refusal = netthimble_player_set_buffer(&p, clip.shape, samples, samples_len);
+    if (refusal == 0) refusal = netthimble_player_set_buffer(&p, clip.shape.channels, clip.shape.frames, clip.shape.rate, samples, samples_len);
     if (refusal != 0) return printf("X %" PRIu32 "\n", refusal) < 0;
     char *text = read_all(stdin, &len);
     for (size_t from = 0; from < len;) {
@@ -42,8 +42,8 @@ int main(void) {
         size_t count = split(text + from, size, w);
         from += size + 1;
         if (count == 1 && is(w[0], "B")) {
-            netthimble_block b;
-            refusal = netthimble_player_process(&p, out, NETTHIMBLE_OUT, samples, samples_len, 128.0 * (double)number / clip.shape.rate, 1.0f, 1.0, &b);
+            netthimble_block b = netthimble_player_process(&p, out, NETTHIMBLE_OUT, samples, samples_len, 128.0 * (double)number / clip.shape.rate, 1.0f, 1.0);
+            refusal = b.refusal;
             if (refusal == 0) print_block(number, b);
             number++;
         } else if (count == 0 || !message(&p, w, count, &refusal)) {

@@ -91,7 +91,7 @@ pub fn handle_control_message(p: &mut Player, m: ControlMessage) -> u32
 // Gives the player its clip: `channels` channels of `frames` frames, at `rate`, in `samples`.
 // Returns the number of its refusal, 0 for none.
 #[no_mangle]
-pub extern "C" fn netthimble_set_buffer(
+pub extern "C" fn netthimble_player_set_buffer(
     p: &mut Player,
     channels: usize,
     frames: usize,
@@ -108,7 +108,7 @@ pub extern "C" fn netthimble_set_buffer(
 
 // Renders a block into the lent output.
 #[no_mangle]
-pub extern "C" fn netthimble_process(
+pub extern "C" fn netthimble_player_process(
     p: &mut Player,
     out: &mut [u32],
     samples: &[u32],

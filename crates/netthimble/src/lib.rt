@@ -7,8 +7,8 @@ mod playing;
 
 use buffer::Shape;
 pub use lent::handle_control_message;
-pub use lent::netthimble_process;
-pub use lent::netthimble_set_buffer;
+pub use lent::netthimble_player_process;
+pub use lent::netthimble_player_set_buffer;
 use player::BufferSeconds;
 use player::Player;
 

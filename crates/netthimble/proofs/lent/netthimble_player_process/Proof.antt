@@ -1,4 +1,4 @@
--- `netthimble::lent::netthimble_process` meets its contract: a walk of its MIR, by hand, as `handle_control_message`'s, with a `&mut` slice and a `&` slice beside the player.
+-- `netthimble::lent::netthimble_player_process` meets its contract: a walk of its MIR, by hand, as `handle_control_message`'s, with a `&mut` slice and a `&` slice beside the player.
 -- The output goes to `block_by_value` at its own lifetime, share and ghost name, and is given up for good: what `block_by_value` says of its last list is said here.
 -- The samples are had twice: one copy goes to `block_by_value`, and one is kept for the exit. Assumes nothing.
 use mathlib.Core.Path.{_≡_, refl, ap}
@@ -59,10 +59,10 @@ use Rattle.netthimble.proofs.lent.block_by_value as core
 use Rattle.netthimble.proofs.lent.block_by_value.Symbol as core-def
 use Rattle.netthimble.proofs.lent.block_by_value.Symbol.{name as #netthimble·lent·block-by-value}
 use Rattle.netthimble.proofs.lent.block_by_value.Met as core-thm
-use Rattle.netthimble.proofs.lent.netthimble_process.Key.{name as #netthimble·lent·netthimble-process}
-use Rattle.netthimble.proofs.lent.netthimble_process as f
-use Rattle.netthimble.proofs.lent.netthimble_process.Statement as stated
-use Rattle.netthimble.proofs.lent.netthimble_process.Code as code
+use Rattle.netthimble.proofs.lent.netthimble_player_process.Key.{name as #netthimble·lent·netthimble-player-process}
+use Rattle.netthimble.proofs.lent.netthimble_player_process as f
+use Rattle.netthimble.proofs.lent.netthimble_player_process.Statement as stated
+use Rattle.netthimble.proofs.lent.netthimble_player_process.Code as code
 
 abbrev stayed : Stays (f.ended .signature .params) (f.ended .kept)
 stayed = (stay-ref (0 ∷ []) tt (plain (λ _. T.the-row)), (gave-slice (1 ∷ []) tt (plain (λ _. u32)), (stay-none-slice (2 ∷ []) tt (plain (λ _. u32)) yes, (stay-none (λ _. f64) yes, (stay-none (λ _. f32) yes, (stay-none (λ _. f64) yes, tt))))))
@@ -191,10 +191,10 @@ process-meets : {M : Type 1} (𝓤 : URA M) (H : Heap 𝓤) (A : Atoms 𝓤) (W 
 process-meets 𝓤 H A W at-mem run 𝓣 known = walk-meets 𝓤 H A f.ended stayed W (goes 𝓤 H A W at-mem run) (f.clauses 𝓤 H A at-mem run) (WpFn 𝓤 H (𝓣 .C) (𝓣 .Λ) code.function) (WpFn-mono 𝓤 H (W .laws) 𝓣 code.function)
     (process-walks 𝓤 H A W at-mem run (𝓣 .C) (𝓣 .Λ) (fmOf 𝓤 H (W .laws) 𝓣) known)
 
-pub netthimble-process-spec : {M : Type 1} → stated.statement M
+pub netthimble-player-process-spec : {M : Type 1} → stated.statement M
 unfolding code.routine tablesOf
-netthimble-process-spec 𝓤 H 𝓜 𝓖 𝓡 =
+netthimble-player-process-spec 𝓤 H 𝓜 𝓖 𝓡 =
     entered 𝓤 H (tripleOf 𝓤 H (𝓖 .A) f.signature (f.spec 𝓤 H (𝓖 .A) (𝓜 .mem) (𝓡 .run)))
-    (tables 𝓤 H 𝓜 𝓡 code.env .C) (tables 𝓤 H 𝓜 𝓡 code.env .Λ) #netthimble·lent·netthimble-process code.function (code.unfolded 𝓤 H 𝓜 𝓡)
+    (tables 𝓤 H 𝓜 𝓡 code.env .C) (tables 𝓤 H 𝓜 𝓡 code.env .Λ) #netthimble·lent·netthimble-player-process code.function (code.unfolded 𝓤 H 𝓜 𝓡)
     (process-meets 𝓤 H (𝓖 .A) (givenOf 𝓤 H 𝓜 𝓖) (𝓜 .mem) (𝓡 .run) (tablesOf 𝓤 H 𝓜 (tables 𝓤 H 𝓜 𝓡 code.env))
     (cited 𝓤 H (Core 𝓤 H (𝓖 .A) (𝓜 .mem) (𝓡 .run)) 𝓜 𝓡 code.env #netthimble·lent·block-by-value core-def.routine code.calls-netthimble·lent·block-by-value (core-thm.met 𝓤 H 𝓜 𝓖 𝓡)))

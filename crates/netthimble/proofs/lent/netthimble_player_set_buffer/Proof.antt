@@ -1,4 +1,4 @@
--- `netthimble::lent::netthimble_set_buffer` meets its contract: a walk of its MIR, by hand, as `handle_control_message`'s, with a `&` slice beside the player.
+-- `netthimble::lent::netthimble_player_set_buffer` meets its contract: a walk of its MIR, by hand, as `handle_control_message`'s, with a `&` slice beside the player.
 -- The samples are had twice: one copy goes to `buffer_by_value`, and one is kept for the exit. Assumes nothing.
 use mathlib.Core.Path.{_≡_, refl, ap}
 use Prim.Native.Nat.{ℕ}
@@ -55,10 +55,10 @@ use Rattle.netthimble.proofs.lent.buffer_by_value as core
 use Rattle.netthimble.proofs.lent.buffer_by_value.Symbol as core-def
 use Rattle.netthimble.proofs.lent.buffer_by_value.Symbol.{name as #netthimble·lent·buffer-by-value}
 use Rattle.netthimble.proofs.lent.buffer_by_value.Met as core-thm
-use Rattle.netthimble.proofs.lent.netthimble_set_buffer.Key.{name as #netthimble·lent·netthimble-set-buffer}
-use Rattle.netthimble.proofs.lent.netthimble_set_buffer as f
-use Rattle.netthimble.proofs.lent.netthimble_set_buffer.Statement as stated
-use Rattle.netthimble.proofs.lent.netthimble_set_buffer.Code as code
+use Rattle.netthimble.proofs.lent.netthimble_player_set_buffer.Key.{name as #netthimble·lent·netthimble-player-set-buffer}
+use Rattle.netthimble.proofs.lent.netthimble_player_set_buffer as f
+use Rattle.netthimble.proofs.lent.netthimble_player_set_buffer.Statement as stated
+use Rattle.netthimble.proofs.lent.netthimble_player_set_buffer.Code as code
 
 abbrev stayed : Stays (f.ended .signature .params) (f.ended .kept)
 stayed = (stay-ref (0 ∷ []) tt (plain (λ _. T.the-row)), (stay-none (λ _. usize) yes, (stay-none (λ _. usize) yes, (stay-none (λ _. f32) yes, (stay-none-slice (1 ∷ []) tt (plain (λ _. u32)) yes, tt)))))
@@ -177,10 +177,10 @@ set-buffer-meets : {M : Type 1} (𝓤 : URA M) (H : Heap 𝓤) (A : Atoms 𝓤) 
 set-buffer-meets 𝓤 H A W at-mem run 𝓣 known = walk-meets 𝓤 H A f.ended stayed W (goes 𝓤 H A W at-mem run) (f.clauses 𝓤 H A at-mem run) (WpFn 𝓤 H (𝓣 .C) (𝓣 .Λ) code.function) (WpFn-mono 𝓤 H (W .laws) 𝓣 code.function)
     (set-buffer-walks 𝓤 H A W at-mem run (𝓣 .C) (𝓣 .Λ) (fmOf 𝓤 H (W .laws) 𝓣) known)
 
-pub netthimble-set-buffer-spec : {M : Type 1} → stated.statement M
+pub netthimble-player-set-buffer-spec : {M : Type 1} → stated.statement M
 unfolding code.routine tablesOf
-netthimble-set-buffer-spec 𝓤 H 𝓜 𝓖 𝓡 =
+netthimble-player-set-buffer-spec 𝓤 H 𝓜 𝓖 𝓡 =
     entered 𝓤 H (tripleOf 𝓤 H (𝓖 .A) f.signature (f.spec 𝓤 H (𝓖 .A) (𝓜 .mem) (𝓡 .run)))
-    (tables 𝓤 H 𝓜 𝓡 code.env .C) (tables 𝓤 H 𝓜 𝓡 code.env .Λ) #netthimble·lent·netthimble-set-buffer code.function (code.unfolded 𝓤 H 𝓜 𝓡)
+    (tables 𝓤 H 𝓜 𝓡 code.env .C) (tables 𝓤 H 𝓜 𝓡 code.env .Λ) #netthimble·lent·netthimble-player-set-buffer code.function (code.unfolded 𝓤 H 𝓜 𝓡)
     (set-buffer-meets 𝓤 H (𝓖 .A) (givenOf 𝓤 H 𝓜 𝓖) (𝓜 .mem) (𝓡 .run) (tablesOf 𝓤 H 𝓜 (tables 𝓤 H 𝓜 𝓡 code.env))
     (cited 𝓤 H (Core 𝓤 H (𝓖 .A) (𝓜 .mem) (𝓡 .run)) 𝓜 𝓡 code.env #netthimble·lent·buffer-by-value core-def.routine code.calls-netthimble·lent·buffer-by-value (core-thm.met 𝓤 H 𝓜 𝓖 𝓡)))
