@@ -115,13 +115,20 @@ fn following(s: Settings, channel: &[u32], frame: usize, k: f64) -> f64
     extrapolated(channel, frame, k)
 }
 
-// The bits at a fraction of the way from a frame on, wherever the frame lies.
+// The bits k of the way from one sample to the next.
+fn between(k: f64, prev_sample: f64, next_sample: f64) -> u32
+    ensures { λ r. ⌜ r ≡ between k «prev_sample» «next_sample» ⌝ }
+{
+    fma_narrow(1.0 - k, prev_sample, k * next_sample)
+}
+
+// The bits k of the way from a frame on, wherever the frame lies.
 fn sample_from(s: Settings, channel: &[u32], frame: usize, k: f64) -> u32
     ensures { λ r. ⌜ r ≡ between k (widen (getD (now (channel .entry)) frame 0)) (following s (now (channel .entry)) frame k) ⌝ }
 {
     let prev_sample = frame_at(channel, frame);
     let next_sample = following(s, channel, frame, k);
-    fma_narrow(1.0 - k, prev_sample, k * next_sample)
+    between(k, prev_sample, next_sample)
 }
 
 // The last of n frames, or of a channel of m if that is shorter.
@@ -141,7 +148,7 @@ fn sample_of(s: Settings, channel: &[u32], info: PlaybackInfo) -> u32
         if frame < last_of(s.buffer_length, channel.len()) {
             let prev_sample = widen(channel[frame]);
             let next_sample = widen(channel[frame + 1]);
-            return fma_narrow(1.0 - k, prev_sample, k * next_sample);
+            return between(k, prev_sample, next_sample);
         }
         return sample_from(s, channel, frame, k);
     }

@@ -52,14 +52,13 @@ shared-slice-read-widen-2 c = search needs
 widen-requires-2 : tie.Need-widen-requires-2
 widen-requires-2 c κs = search needs
 
-fma-narrow-requires : tie.Need-fma-narrow-requires
-fma-narrow-requires c κs = search needs
+between-requires : tie.Need-between-requires
+between-requires c κs = search needs
 
 returns : tie.Need-returns
-unfolding between
 returns c =
     let t = c .before .before .before .before .before in
-    rw (c .fma-narrow .ensures, c .before .widen2 .ensures, c .before .before .before .widen .ensures)
+    rw (c .between .ensures, c .before .widen2 .ensures, c .before .before .before .widen .ensures)
     (sym (plays _ _ _ (t .before .before .if1 .taken) ∙ ap (between _ _) (inside _ _ _ _ _ _ (t .before .last-of .ensures) (t .if2 .taken))))
 
 sample-from-requires : tie.Need-sample-from-requires
@@ -75,4 +74,4 @@ returns-3 c = left _ _ _ (c .if1 .left) refl
 pub sample-of-spec : {M : Type 1} → statement M
 sample-of-spec =
     tie.close
-    (tie.spec last-of-requires mul-widen shared-slice-read-widen widen-requires add-widen mul-widen-2 shared-slice-read-widen-2 widen-requires-2 fma-narrow-requires returns sample-from-requires returns-2 returns-3)
+    (tie.spec last-of-requires mul-widen shared-slice-read-widen widen-requires add-widen mul-widen-2 shared-slice-read-widen-2 widen-requires-2 between-requires returns sample-from-requires returns-2 returns-3)
