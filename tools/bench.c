@@ -1,9 +1,13 @@
-/* The runs of `replay bench` (oracle/rust/replay/bench.rs), of ours through the C library, and memcpy as the limit: lines `name ns`. */
+/* The runs of `replay bench` (oracle/rust/replay/bench.rs), of ours, and memcpy as the limit: lines `name ns`.
+   Blocks are called from Rattle (crates/player_c), as the Rust's from Rust, and once more through the C library: names with `-c`. */
+#include <math.h>
 #include <netthimble.h>
 #include <stdio.h>
 #include <stdlib.h>
 #include <string.h>
 #include <time.h>
+
+extern bool player_blocks(uint32_t *out, size_t out_len, const uint32_t *samples, size_t samples_len, size_t channels, size_t frames, bool looped, float rate, size_t blocks);
 
 enum { BLOCKS = 4000, MILLION = 1000000 };
 static const float RATE = 48000.0f;
@@ -45,24 +49,29 @@ static netthimble_player begun(size_t channels, size_t frames, bool looped, cons
     return p;
 }
 
-static double block_run(size_t channels, size_t frames, bool looped, float rate, const uint32_t *words) {
+static double from_rattle(size_t channels, size_t frames, bool looped, float rate, const uint32_t *words) {
+    double t = now();
+    if (!player_blocks(out, 4096, words, channels * frames, channels, frames, looped, rate, BLOCKS)) must(1);
+    return (now() - t) / BLOCKS;
+}
+
+static double from_c(size_t channels, size_t frames, bool looped, float rate, const uint32_t *words) {
     netthimble_player p = begun(channels, frames, looped, words);
     double t = now();
-    for (size_t n = 0; n < BLOCKS; n++) {
+    for (size_t n = 0; n < BLOCKS; n++)
         must(netthimble_player_process(&p, out, 4096, words, channels * frames, (double)(128 * n) / RATE, rate, 1.0).refusal);
-    }
     return (now() - t) / BLOCKS;
 }
 
 static void block(const char *name, size_t channels, bool looped, float rate, bool noise) {
     size_t frames = looped ? 1000 : 128 * (BLOCKS + 2);
     uint32_t *words = frames_of(channels * frames, noise);
-    double best = 1e300;
+    double rattle = 1e300, c = 1e300;
     for (int turn = 0; turn < 3; turn++) {
-        double t = block_run(channels, frames, looped, rate, words);
-        if (t < best) best = t;
+        rattle = fmin(rattle, from_rattle(channels, frames, looped, rate, words));
+        c = fmin(c, from_c(channels, frames, looped, rate, words));
     }
-    printf("%s-%zu %.0f\n", name, channels, best);
+    printf("%s-%zu %.0f\n%s-%zu-c %.0f\n", name, channels, rattle, name, channels, c);
     free(words);
 }
 
@@ -77,8 +86,7 @@ static void limit(size_t channels) {
             for (size_t c = 0; c < channels; c++) memcpy(out + 128 * c, words + c * frames + 128 * n, 512);
             __asm__ volatile("" : : "r"(out) : "memory");
         }
-        t = (now() - t) / BLOCKS;
-        if (t < best) best = t;
+        best = fmin(best, (now() - t) / BLOCKS);
     }
     printf("memcpy-once-%zu %.0f\n", channels, best);
     free(words);
@@ -99,8 +107,7 @@ static void blocks(void) {
         double t = now(); \
         call; \
         __asm__ volatile("" : : : "memory"); \
-        t = now() - t; \
-        if (t < best) best = t; \
+        best = fmin(best, now() - t); \
     } \
     printf("%s %.0f\n", name, best); }
 
