@@ -77,7 +77,7 @@ class _Told(ctypes.Structure):
 
 
 class _Block(ctypes.Structure):
-    _fields_ = [("player", _Player), ("refusal", c_uint32), ("keep_alive", c_bool), ("ended", c_bool), ("channels", c_size_t), ("position", c_double)]
+    _fields_ = [("position", c_double), ("channels", c_size_t), ("refusal", c_uint32), ("keep_alive", c_bool), ("ended", c_bool)]
 
 
 class _Shaped(ctypes.Structure):
@@ -93,8 +93,8 @@ _CALLS = {
     "loop": (_Told, [_Player, c_bool]),
     "loop_start": (_Told, [_Player, c_double]),
     "loop_end": (_Told, [_Player, c_double]),
-    "set_buffer": (_Told, [_Player, c_size_t, c_size_t, c_float, _WORDS, c_size_t]),
-    "process": (_Block, [_Player, _WORDS, c_size_t, _WORDS, c_size_t, c_double, c_float, c_double]),
+    "player_set_buffer": (c_uint32, [POINTER(_Player), c_size_t, c_size_t, c_float, _WORDS, c_size_t]),
+    "player_process": (_Block, [POINTER(_Player), _WORDS, c_size_t, _WORDS, c_size_t, c_double, c_float, c_double]),
     "clip_shape": (_Shaped, [_BYTES, c_size_t]),
     "clip_frames": (c_uint32, [_BYTES, c_size_t, _WORDS, c_size_t]),
 }
@@ -218,7 +218,9 @@ class Player:
         """Gives the player its clip, once; the player holds on to it."""
         if not isinstance(clip, Clip):
             raise TypeError("set_clip takes a netthimble.Clip")
-        self._tell("set_buffer", *clip._shape, clip._lent, len(clip._lent))
+        refusal = _CALL["player_set_buffer"](self._record, *clip._shape, clip._lent, len(clip._lent))
+        if refusal:
+            raise Refused("set_clip", refusal)
         self._clip = clip
 
     def start(self, when=0.0, offset=0.0, duration=None):
@@ -246,10 +248,9 @@ class Player:
     def block(self, time, rate=1.0, factor=1.0):
         """The block at `time` seconds of the context, played at `rate` times `factor`. Times must rise."""
         out, lent = (c_uint32 * _OUT)(), self._clip._lent if self._clip else (c_uint32 * 0)()
-        r = _CALL["process"](self._record, out, _OUT, lent, len(lent), time, rate, factor)
+        r = _CALL["player_process"](self._record, out, _OUT, lent, len(lent), time, rate, factor)
         if r.refusal:
             raise Refused("block", r.refusal)
-        self._record = r.player
         data = memoryview(out).cast("B")
         bits = [_words(data[4 * FRAMES * c : 4 * FRAMES * (c + 1)]) for c in range(r.channels)]
         return Block(bits, bool(r.keep_alive), bool(r.ended), r.position)
