@@ -1,0 +1,3 @@
+-- The laws that the proofs of `session` share.
+mod Accepted
+mod Replies

@@ -1,0 +1,2 @@
+-- What a run of `trial` does to the player and prints (document 01, '`trial`').
+pub mod Obeying

@@ -1,0 +1,37 @@
+// A run of `trial` after its clip is read: what each line of the input does to the player and
+// prints, and how an input that comes in chunks is cut into lines.
+mod obeying;
+
+pub use obeying::obey;
+use player::Player;
+
+// The player, and the number of the next `B` line.
+pub struct Session {
+    pub player: Player,
+    pub number: usize,
+}
+
+// The session that a line leaves, and how many bytes it printed.
+pub struct Answer {
+    pub session: Session,
+    pub printed: usize,
+}
+
+// A line is obeyed only where any block's text has room in the output.
+pub enum Obeyed {
+    Line(Answer),
+    NoRoom,
+}
+
+// What is carried from byte to byte of the input: the session, and the length of the line so far.
+pub struct State {
+    pub session: Session,
+    pub len: usize,
+}
+
+// The state after some bytes of the input, how many were taken, and how many bytes were printed.
+pub struct Fed {
+    pub state: State,
+    pub taken: usize,
+    pub printed: usize,
+}

@@ -1,0 +1,170 @@
+// What one line does.
+ghost use mathlib.Core.Path.{_≡_};
+ghost use Prim.Native.Nat.{_≤_};
+ghost use lib.ListN.{length};
+ghost use lib.Seq.{sets};
+ghost use Rattle.text.specs.Lines.{blockRoom};
+ghost use Rattle.session.specs.Obeying.{refused, sent, counted, blockTime, playedWords, played, obeyed, hasRoom, answerOf, answered, wordsAfter, outAfter, bytesOf};
+use super::Answer;
+use super::Obeyed;
+use super::Session;
+use player::ControlMessage;
+use player::Handled;
+use player::Rendered;
+use rounding::from_pattern_f64;
+use rounding::whole;
+use text::BLOCK_ROOM;
+use text::Command;
+use text::Printed;
+
+// The most `B` lines that are counted.
+const MOST_BLOCKS: usize = 35_184_372_088_832;
+
+// The bytes that were printed.
+fn bytes_of(p: Printed) -> usize
+    ensures { λ r. ⌜ r ≡ bytesOf p ⌝ }
+{
+    match p {
+        Printed::Bytes(n) => n,
+        Printed::Refused => 0,
+    }
+}
+
+// Prints a refusal.
+fn refuse(session: Session, number: u32, out: &mut [u8]) -> Answer
+    requires { ⌜ blockRoom ≤ length (now out) ⌝ }
+    ensures { λ r. ⌜ (r ≡ answerOf (refused session number)) × (now (out .exit) ≡ sets (now (out .entry)) 0 (refused session number .text)) ⌝ }
+{
+    let printed = bytes_of(text::refusal_text(number, out));
+    Answer { session, printed }
+}
+
+// Sends a control message.
+fn tell(session: Session, message: ControlMessage, out: &mut [u8]) -> Answer
+    requires { ⌜ blockRoom ≤ length (now out) ⌝ }
+    ensures { λ r. ⌜ (r ≡ answerOf (sent session message)) × (now (out .exit) ≡ sets (now (out .entry)) 0 (sent session message .text)) ⌝ }
+{
+    let player = session.player;
+    match player.handle_control_message(message) {
+        Handled::Done(next) => Answer {
+            session: Session {
+                player: next,
+                number: session.number,
+            },
+            printed: 0,
+        },
+        Handled::Refused(number) => refuse(session, number, out),
+    }
+}
+
+fn counted(number: usize) -> usize
+    ensures { λ r. ⌜ r ≡ counted number ⌝ }
+{
+    if number < MOST_BLOCKS {
+        number
+    } else {
+        MOST_BLOCKS
+    }
+}
+
+// The time of the next block.
+fn block_time(session: Session) -> f64
+    ensures { λ r. ⌜ r ≡ blockTime session ⌝ }
+{
+    let rate = std::num::f32_to_f64_with_nan(session.player.sample_rate);
+    whole(128 * counted(session.number)) / rate
+}
+
+// Renders a block into `words`, and prints it.
+fn play(session: Session, samples: &[u32], words: &mut [u32], out: &mut [u8]) -> Answer
+    requires { ⌜ blockRoom ≤ length (now out) ⌝ }
+    ensures { λ r. ⌜ (r ≡ answerOf (played (now (samples .entry)) session (now (words .entry))))
+        × (now (words .exit) ≡ playedWords (now (samples .entry)) session (now (words .entry)))
+        × (now (out .exit) ≡ sets (now (out .entry)) 0 (played (now (samples .entry)) session (now (words .entry)) .text)) ⌝ }
+{
+    let player = session.player;
+    let number = session.number;
+    let next = counted(number) + 1;
+    match player.process(words, samples, block_time(session), 1.0, 1.0) {
+        Rendered::Block(report) => {
+            let left = report.player;
+            let printed = bytes_of(text::block_text(
+                number,
+                report.keep_alive,
+                report.ended,
+                report.channels,
+                words,
+                out,
+            ));
+            Answer {
+                session: Session {
+                    player: left,
+                    number: next,
+                },
+                printed,
+            }
+        }
+        Rendered::Refused(refusal) => refuse(
+            Session {
+                player,
+                number: next,
+            },
+            refusal,
+            out,
+        ),
+    }
+}
+
+// Obeys a line where there is room for what it prints.
+pub fn obey_line(
+    session: Session,
+    line: &[u8],
+    samples: &[u32],
+    words: &mut [u32],
+    out: &mut [u8],
+) -> Answer
+    requires { ⌜ blockRoom ≤ length (now out) ⌝ }
+    ensures { λ r. ⌜ (r ≡ answerOf (obeyed (now (samples .entry)) session (now (words .entry)) (now (line .entry)) .reply))
+        × (now (words .exit) ≡ obeyed (now (samples .entry)) session (now (words .entry)) (now (line .entry)) .words)
+        × (now (out .exit) ≡ sets (now (out .entry)) 0 (obeyed (now (samples .entry)) session (now (words .entry)) (now (line .entry)) .reply .text)) ⌝ }
+{
+    match text::read_command(line) {
+        Command::Start(when, offset, duration) => tell(
+            session,
+            ControlMessage::Start(
+                from_pattern_f64(when),
+                from_pattern_f64(offset),
+                from_pattern_f64(duration),
+            ),
+            out,
+        ),
+        Command::Stop(when) => tell(session, ControlMessage::Stop(from_pattern_f64(when)), out),
+        Command::LoopStart(at) => tell(
+            session,
+            ControlMessage::LoopStart(from_pattern_f64(at)),
+            out,
+        ),
+        Command::LoopEnd(at) => tell(session, ControlMessage::LoopEnd(from_pattern_f64(at)), out),
+        Command::Loop(on) => tell(session, ControlMessage::Loop(on), out),
+        Command::Block => play(session, samples, words, out),
+        Command::Unknown => refuse(session, 0, out),
+    }
+}
+
+// Obeys a line: `samples` are the clip's, `words` takes the block, and `out` what is printed.
+pub fn obey(
+    session: Session,
+    line: &[u8],
+    samples: &[u32],
+    words: &mut [u32],
+    out: &mut [u8],
+) -> Obeyed
+    ensures { λ r. ⌜ (r ≡ answered (hasRoom (now (out .entry))) (obeyed (now (samples .entry)) session (now (words .entry)) (now (line .entry))))
+        × (now (words .exit) ≡ wordsAfter (hasRoom (now (out .entry))) (obeyed (now (samples .entry)) session (now (words .entry)) (now (line .entry))) (now (words .entry)))
+        × (now (out .exit) ≡ outAfter (hasRoom (now (out .entry))) (obeyed (now (samples .entry)) session (now (words .entry)) (now (line .entry))) (now (out .entry))) ⌝ }
+{
+    if out.len() < BLOCK_ROOM {
+        return Obeyed::NoRoom;
+    }
+    Obeyed::Line(obey_line(session, line, samples, words, out))
+}
