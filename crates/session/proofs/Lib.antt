@@ -1,3 +1,5 @@
 -- The laws that the proofs of `session` share.
 mod Accepted
+mod Lengths
 mod Replies
+mod Bytes

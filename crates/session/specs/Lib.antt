@@ -1,2 +1,3 @@
 -- What a run of `trial` does to the player and prints (document 01, '`trial`').
 pub mod Obeying
+pub mod Feeding

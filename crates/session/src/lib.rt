@@ -1,7 +1,10 @@
 // A run of `trial` after its clip is read: what each line of the input does to the player and
 // prints, and how an input that comes in chunks is cut into lines.
+mod feeding;
 mod obeying;
 
+pub use feeding::feed;
+pub use feeding::finish;
 pub use obeying::obey;
 use player::Player;
 
@@ -27,6 +30,12 @@ pub enum Obeyed {
 pub struct State {
     pub session: Session,
     pub len: usize,
+}
+
+// The state after a byte of the input, and how many bytes were printed.
+pub struct Taken {
+    pub state: State,
+    pub printed: usize,
 }
 
 // The state after some bytes of the input, how many were taken, and how many bytes were printed.

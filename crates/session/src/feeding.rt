@@ -1,0 +1,143 @@
+// The bytes of the input, one after another.
+ghost use mathlib.Core.Path.{_≡_};
+ghost use Prim.Native.Nat.{_≤_, min};
+ghost use lib.ListN.{length};
+ghost use lib.Seq.{sets};
+ghost use Rattle.text.specs.Lines.{blockRoom};
+ghost use Rattle.session.specs.Obeying.{hasRoom, answered, wordsAfter, outAfter};
+ghost use Rattle.session.specs.Feeding.{runOf, stepped, said, goesOn, fed, finished, takenOf, fedOf};
+use super::Answer;
+use super::Fed;
+use super::Obeyed;
+use super::State;
+use super::Taken;
+use super::obeying::obey_line;
+use text::BLOCK_ROOM;
+
+const NEWLINE: u8 = 10;
+
+fn within(len: usize, most: usize) -> usize
+    ensures { λ r. ⌜ r ≡ min len most ⌝ }
+{
+    if len < most { len } else { most }
+}
+
+// Takes a byte: a newline ends a line, which is obeyed. Bytes past the end of `line` are left out:
+// it is longer than any command.
+fn take_byte(
+    state: State,
+    b: u8,
+    line: &mut [u8],
+    samples: &[u32],
+    words: &mut [u32],
+    out: &mut [u8],
+) -> Taken
+    requires { ⌜ blockRoom ≤ length (now out) ⌝ }
+    ensures { λ r. ⌜ (r ≡ takenOf (now (samples .entry)) (runOf state (now (line .entry)) (now (words .entry))) b)
+        × (now (line .exit) ≡ stepped (now (samples .entry)) (runOf state (now (line .entry)) (now (words .entry))) b .line)
+        × (now (words .exit) ≡ stepped (now (samples .entry)) (runOf state (now (line .entry)) (now (words .entry))) b .words)
+        × (now (out .exit) ≡ sets (now (out .entry)) 0 (said (now (samples .entry)) (runOf state (now (line .entry)) (now (words .entry))) b)) ⌝ }
+{
+    let session = state.session;
+    let len = state.len;
+    if b == NEWLINE {
+        let n = within(len, line.len());
+        let answer = obey_line(session, &line[..n], samples, words, out);
+        let next = answer.session;
+        return Taken {
+            state: State {
+                session: next,
+                len: 0,
+            },
+            printed: answer.printed,
+        };
+    }
+    if len < line.len() {
+        line[len] = b;
+        return Taken {
+            state: State {
+                session,
+                len: len + 1,
+            },
+            printed: 0,
+        };
+    }
+    Taken { state, printed: 0 }
+}
+
+// Whether a byte is left, and a block's text has room behind what was printed.
+fn goes_on(taken: usize, input: usize, printed: usize, room: usize) -> bool
+    requires { ⌜ printed ≤ room ⌝ }
+    ensures { λ r. ⌜ r ≡ goesOn taken input printed room ⌝ }
+{
+    if taken < input {
+        return BLOCK_ROOM <= room - printed;
+    }
+    false
+}
+
+// Takes the bytes of `input` until they are used up or `out` lacks room: `line` holds the line so
+// far, `samples` are the clip's, `words` takes the blocks, and `out` what is printed.
+pub fn feed(
+    start: State,
+    input: &[u8],
+    line: &mut [u8],
+    samples: &[u32],
+    words: &mut [u32],
+    out: &mut [u8],
+) -> Fed
+    ensures { λ r. ⌜ (r ≡ fedOf (fed (now (samples .entry)) (length (now (out .entry))) (runOf start (now (line .entry)) (now (words .entry))) (now (input .entry))))
+        × (now (line .exit) ≡ fed (now (samples .entry)) (length (now (out .entry))) (runOf start (now (line .entry)) (now (words .entry))) (now (input .entry)) .run .line)
+        × (now (words .exit) ≡ fed (now (samples .entry)) (length (now (out .entry))) (runOf start (now (line .entry)) (now (words .entry))) (now (input .entry)) .run .words)
+        × (now (out .exit) ≡ sets (now (out .entry)) 0 (fed (now (samples .entry)) (length (now (out .entry))) (runOf start (now (line .entry)) (now (words .entry))) (now (input .entry)) .text)) ⌝ }
+{
+    let mut state = start;
+    let mut taken = 0;
+    let mut printed = 0;
+    while goes_on(taken, input.len(), printed, out.len()) {
+        let step = take_byte(
+            state,
+            input[taken],
+            line,
+            samples,
+            words,
+            &mut out[printed..],
+        );
+        let next = step.state;
+        state = next;
+        printed += step.printed;
+        taken += 1;
+    }
+    Fed {
+        state,
+        taken,
+        printed,
+    }
+}
+
+// Obeys a last line that lacks its newline.
+pub fn finish(
+    state: State,
+    line: &[u8],
+    samples: &[u32],
+    words: &mut [u32],
+    out: &mut [u8],
+) -> Obeyed
+    ensures { λ r. ⌜ (r ≡ answered (hasRoom (now (out .entry))) (finished (now (samples .entry)) (runOf state (now (line .entry)) (now (words .entry)))))
+        × (now (words .exit) ≡ wordsAfter (hasRoom (now (out .entry))) (finished (now (samples .entry)) (runOf state (now (line .entry)) (now (words .entry)))) (now (words .entry)))
+        × (now (out .exit) ≡ outAfter (hasRoom (now (out .entry))) (finished (now (samples .entry)) (runOf state (now (line .entry)) (now (words .entry)))) (now (out .entry))) ⌝ }
+{
+    if out.len() < BLOCK_ROOM {
+        return Obeyed::NoRoom;
+    }
+    let session = state.session;
+    let len = state.len;
+    if len == 0 {
+        return Obeyed::Line(Answer {
+            session,
+            printed: 0,
+        });
+    }
+    let n = within(len, line.len());
+    Obeyed::Line(obey_line(session, &line[..n], samples, words, out))
+}
