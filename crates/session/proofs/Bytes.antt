@@ -93,7 +93,7 @@ pub byte-left-out : (samples : List ℕ) (r : Run) (b : ℕ) (out : List ℕ) �
 unfolding stepped said extended
 byte-left-out samples r b out other full = simp (ne-eqb b NEWLINE other, le-ltb (r .len) (length (r .line)) full) (refl, refl, refl, refl)
 
-said-fits : (samples : List ℕ) (r : Run) (b : ℕ) → length (said samples r b) ≤ blockRoom
+pub said-fits : (samples : List ℕ) (r : Run) (b : ℕ) → length (said samples r b) ≤ blockRoom
 unfolding said lineObeyed
 said-fits samples r b = go (eqb b NEWLINE) _ (obeyed-fits samples (r .session) (r .words) (take (r .len) (r .line)))
   where

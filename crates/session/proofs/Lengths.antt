@@ -21,7 +21,8 @@ use Rattle.player.specs.declared.Handled.the-variants as told
 use Rattle.player.specs.declared.Rendered.{Rendered}
 use Rattle.player.specs.declared.Rendered.the-variants as block
 use Rattle.session.specs.declared.Session.{Session}
-use Rattle.session.specs.Obeying.{refused, afterMessage, sent, blockTime, afterBlock, playedWords, played, done, obeyed}
+use Rattle.session.specs.declared.Answer.{Answer}
+use Rattle.session.specs.Obeying.{refused, afterMessage, sent, blockTime, afterBlock, playedWords, played, done, obeyed, answerOf}
 use Rattle.session.proofs.Accepted.{few-channels}
 
 -- ---- the parts of a text
@@ -108,3 +109,6 @@ done-fits samples s words Unknown = refusal-fits s 0
 pub obeyed-fits : (samples : List ℕ) (s : Session) (words line : List ℕ) → length (obeyed samples s words line .reply .text) ≤ blockRoom
 unfolding obeyed
 obeyed-fits samples s words line = done-fits samples s words (command line)
+
+pub answer-fits : (samples : List ℕ) (s : Session) (words line : List ℕ) (room : ℕ) (a : Answer) → a ≡ answerOf (obeyed samples s words line .reply) → blockRoom ≤ room → a .printed ≤ room
+answer-fits samples s words line room a is fits = omega (arith, ap (λ (x : Answer). x .printed) is, obeyed-fits samples s words line)

@@ -3,3 +3,4 @@ mod Accepted
 mod Lengths
 mod Replies
 mod Bytes
+mod Chunks

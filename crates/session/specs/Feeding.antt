@@ -1,7 +1,7 @@
 -- The bytes of an input, taken one after another, and a last line that lacks its newline (document 01, '`trial`'). Definitions only.
 use mathlib.Core.Bool.{Bool, _&&_, cond}
 use mathlib.Core.List.{List, [], _∷_, _++_}
-use Prim.Native.Nat.{ℕ, _+_}
+use Prim.Native.Nat.{ℕ, _+_, _≤_}
 use lib.Dec.{leb, ltb, eqb}
 use lib.ListN.{length, take, set}
 use Rattle.text.specs.Lines.{NEWLINE, blockRoom}
@@ -82,3 +82,9 @@ takenOf samples r b = record { state = stateOf (stepped samples r b); printed = 
 
 abbrev pub fedOf : Progress → Fed
 fedOf f = record { state = stateOf (f .run); taken = f .taken; printed = length (f .text) }
+
+-- what a caller goes by who writes what was printed and hands in the rest of the bytes: with room for a block, some are taken
+pub record Moves (input room : ℕ) (r : Fed) : Type 0 where
+  pub taken : r .taken ≤ input
+  pub printed : r .printed ≤ room
+  pub some : 1 ≤ input → blockRoom ≤ room → 1 ≤ r .taken

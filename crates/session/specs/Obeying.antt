@@ -119,7 +119,12 @@ wordsAfter room o words = cond room (o .words) words
 unfoldable pub outAfter : Bool → Outcome → List ℕ → List ℕ
 outAfter room o out = cond room (sets out 0 (o .reply .text)) out
 
--- how many bytes were printed
+-- a caller writes so many bytes: never more than the slice has
+abbrev pub written : Obeyed → ℕ
+written (Line a) = a .printed
+written NoRoom = 0
+
+-- how many bytes a printing call put there
 unfoldable pub bytesOf : Printed → ℕ
 bytesOf (Bytes n) = n
 bytesOf Refused = 0

@@ -4,8 +4,8 @@ ghost use Prim.Native.Nat.{_≤_, min};
 ghost use lib.ListN.{length};
 ghost use lib.Seq.{sets};
 ghost use Rattle.text.specs.Lines.{blockRoom};
-ghost use Rattle.session.specs.Obeying.{hasRoom, answered, wordsAfter, outAfter};
-ghost use Rattle.session.specs.Feeding.{runOf, stepped, said, goesOn, fed, finished, takenOf, fedOf};
+ghost use Rattle.session.specs.Obeying.{hasRoom, answered, wordsAfter, outAfter, written};
+ghost use Rattle.session.specs.Feeding.{runOf, stepped, said, goesOn, fed, finished, takenOf, fedOf, Moves};
 use super::Answer;
 use super::Fed;
 use super::Obeyed;
@@ -90,6 +90,7 @@ pub fn feed(
         × (now (line .exit) ≡ fed (now (samples .entry)) (length (now (out .entry))) (runOf start (now (line .entry)) (now (words .entry))) (now (input .entry)) .run .line)
         × (now (words .exit) ≡ fed (now (samples .entry)) (length (now (out .entry))) (runOf start (now (line .entry)) (now (words .entry))) (now (input .entry)) .run .words)
         × (now (out .exit) ≡ sets (now (out .entry)) 0 (fed (now (samples .entry)) (length (now (out .entry))) (runOf start (now (line .entry)) (now (words .entry))) (now (input .entry)) .text)) ⌝ }
+    ensures { λ r. ⌜ Moves (length (now (input .entry))) (length (now (out .entry))) r ⌝ }
 {
     let mut state = start;
     let mut taken = 0;
@@ -126,6 +127,7 @@ pub fn finish(
     ensures { λ r. ⌜ (r ≡ answered (hasRoom (now (out .entry))) (finished (now (samples .entry)) (runOf state (now (line .entry)) (now (words .entry)))))
         × (now (words .exit) ≡ wordsAfter (hasRoom (now (out .entry))) (finished (now (samples .entry)) (runOf state (now (line .entry)) (now (words .entry)))) (now (words .entry)))
         × (now (out .exit) ≡ outAfter (hasRoom (now (out .entry))) (finished (now (samples .entry)) (runOf state (now (line .entry)) (now (words .entry)))) (now (out .entry))) ⌝ }
+    ensures { λ r. ⌜ written r ≤ length (now (out .entry)) ⌝ }
 {
     if out.len() < BLOCK_ROOM {
         return Obeyed::NoRoom;

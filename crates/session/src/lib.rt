@@ -3,6 +3,7 @@
 mod feeding;
 mod obeying;
 
+ghost use Rattle.session.specs.Statement.{TranscriptOfChunks};
 pub use feeding::feed;
 pub use feeding::finish;
 pub use obeying::obey;
@@ -44,3 +45,9 @@ pub struct Fed {
     pub taken: usize,
     pub printed: usize,
 }
+
+// However an input is cut into chunks, what `feed` and `finish` print is the transcript of its
+// lines.
+pub fn transcript_of_chunks()
+    ensures { λ _. ⌜ TranscriptOfChunks ⌝ }
+{}

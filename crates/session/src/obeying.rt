@@ -4,7 +4,7 @@ ghost use Prim.Native.Nat.{_≤_};
 ghost use lib.ListN.{length};
 ghost use lib.Seq.{sets};
 ghost use Rattle.text.specs.Lines.{blockRoom};
-ghost use Rattle.session.specs.Obeying.{refused, sent, counted, blockTime, playedWords, played, obeyed, hasRoom, answerOf, answered, wordsAfter, outAfter, bytesOf};
+ghost use Rattle.session.specs.Obeying.{refused, sent, counted, blockTime, playedWords, played, obeyed, hasRoom, answerOf, answered, wordsAfter, outAfter, written, bytesOf};
 use super::Answer;
 use super::Obeyed;
 use super::Session;
@@ -162,6 +162,7 @@ pub fn obey(
     ensures { λ r. ⌜ (r ≡ answered (hasRoom (now (out .entry))) (obeyed (now (samples .entry)) session (now (words .entry)) (now (line .entry))))
         × (now (words .exit) ≡ wordsAfter (hasRoom (now (out .entry))) (obeyed (now (samples .entry)) session (now (words .entry)) (now (line .entry))) (now (words .entry)))
         × (now (out .exit) ≡ outAfter (hasRoom (now (out .entry))) (obeyed (now (samples .entry)) session (now (words .entry)) (now (line .entry))) (now (out .entry))) ⌝ }
+    ensures { λ r. ⌜ written r ≤ length (now (out .entry)) ⌝ }
 {
     if out.len() < BLOCK_ROOM {
         return Obeyed::NoRoom;

@@ -6,6 +6,7 @@ use lib.ListN.{length}
 use borrow.Author.Needs.{needs}
 use Rattle.session.specs.Feeding.{runOf}
 use Rattle.session.proofs.Bytes.{rest-length, goes-on, step-fits, Reached, reached-none, reached-length, reached-more, reached-end}
+use Rattle.session.proofs.Chunks.{fed-moves}
 use Rattle.session.proofs.feeding.feed.Statement.{statement}
 use Rattle.session.proofs.feeding.feed.Tie as tie
 
@@ -86,7 +87,9 @@ same-length-3 : tie.Need-same-length-3 Inv-loop μ-loop
 same-length-3 c = reached-length _ _ _ _ _ _ _ _ _ _ (c .before .before .loop .inv .5)
 
 returns : tie.Need-returns Inv-loop μ-loop
-returns c = reached-end _ _ _ _ _ _ _ _ _ _ _ (c .before .before .loop .inv .5) (c .before .goes-on .ensures) (c .if1 .left)
+returns c =
+    let e = reached-end _ _ _ _ _ _ _ _ _ _ _ (c .before .before .loop .inv .5) (c .before .goes-on .ensures) (c .if1 .left) in
+    (e, fed-moves _ _ _ _ _ (e .0))
 
 pub feed-spec : {M : Type 1} → statement M
 feed-spec =

@@ -5,19 +5,21 @@ use Rattle.session.specs.declared.Obeyed.the-variants.{Line}
 use Rattle.session.specs.Obeying.{answered, wordsAfter, outAfter}
 use Rattle.session.specs.Feeding.{runOf}
 use Rattle.session.proofs.Bytes.{length-within, nothing-left, line-left}
+use native.Mathlib.Omega.{arith}
+use Rattle.session.proofs.Lengths.{answer-fits}
 use borrow.Author.Needs.{needs}
 use Rattle.session.proofs.feeding.finish.Statement.{statement}
 use Rattle.session.proofs.feeding.finish.Tie as tie
 
 returns : tie.Need-returns
 unfolding answered wordsAfter outAfter
-returns c = simp (lt-leb _ _ (c .if1 .taken)) (refl, refl, refl)
+returns c = simp (lt-leb _ _ (c .if1 .taken)) ((refl, refl, refl), omega arith)
 
 returns-2 : tie.Need-returns-2
 unfolding answered wordsAfter outAfter
 returns-2 c =
     let e = nothing-left (c .before .before .before .before .before .before .before .args .samples .now) (runOf (c .before .before .before .before .before .before .before .args .state) (c .before .before .before .before .before .before .before .args .line .now) (c .before .before .before .before .before .before .before .args .words .now)) (c .if2 .taken) in
-    simp (le-leb _ _ (c .before .before .if1 .left), e) (refl, refl, refl)
+    simp (le-leb _ _ (c .before .before .if1 .left), e) ((refl, refl, refl), omega arith)
 
 within-requires : tie.Need-within-requires
 within-requires c κs = search needs
@@ -38,7 +40,7 @@ returns-3 : tie.Need-returns-3
 unfolding answered wordsAfter outAfter
 returns-3 c =
     let e = line-left (c .before .before .before .before .before .before .before .before .before .before .before .before .before .before .before .before .args .samples .now) (runOf (c .before .before .before .before .before .before .before .before .before .before .before .before .before .before .before .before .args .state) (c .before .before .before .before .before .before .before .before .before .before .before .before .before .before .before .before .args .line .now) (c .before .before .before .before .before .before .before .before .before .before .before .before .before .before .before .before .args .words .now)) _ (c .before .before .before .before .before .before .before .before .before .if2 .left) (c .before .before .before .before .before .before .before .before .within .ensures) in
-    simp (le-leb _ _ (c .before .before .before .before .before .before .before .before .before .before .before .if1 .left), e) (ap Line (c .before .before .before .before .obey-line .ensures .0), c .before .before .before .before .obey-line .ensures .1, c .before .before .before .before .obey-line .ensures .2)
+    simp (le-leb _ _ (c .before .before .before .before .before .before .before .before .before .before .before .if1 .left), e) ((ap Line (c .before .before .before .before .obey-line .ensures .0), c .before .before .before .before .obey-line .ensures .1, c .before .before .before .before .obey-line .ensures .2), answer-fits _ _ _ _ _ _ (c .before .before .before .before .obey-line .ensures .0) (c .before .before .before .before .before .before .before .before .before .before .before .if1 .left))
 
 pub finish-spec : {M : Type 1} → statement M
 finish-spec =
