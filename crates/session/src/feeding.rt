@@ -33,10 +33,10 @@ fn take_byte(
     out: &mut [u8],
 ) -> Taken
     requires { ⌜ blockRoom ≤ length (now out) ⌝ }
-    ensures { λ r. ⌜ (r ≡ takenOf (now (samples .entry)) (runOf state (now (line .entry)) (now (words .entry))) b)
-        × (now (line .exit) ≡ stepped (now (samples .entry)) (runOf state (now (line .entry)) (now (words .entry))) b .line)
-        × (now (words .exit) ≡ stepped (now (samples .entry)) (runOf state (now (line .entry)) (now (words .entry))) b .words)
-        × (now (out .exit) ≡ sets (now (out .entry)) 0 (said (now (samples .entry)) (runOf state (now (line .entry)) (now (words .entry))) b)) ⌝ }
+    ensures { λ r. ⌜ (let before = runOf state (now (line .entry)) (now (words .entry)) in
+        let after = stepped (now (samples .entry)) before b in
+        (r ≡ takenOf (now (samples .entry)) before b) × (now (line .exit) ≡ after .line) × (now (words .exit) ≡ after .words)
+        × (now (out .exit) ≡ sets (now (out .entry)) 0 (said (now (samples .entry)) before b))) ⌝ }
 {
     let session = state.session;
     let len = state.len;
@@ -86,10 +86,8 @@ pub fn feed(
     words: &mut [u32],
     out: &mut [u8],
 ) -> Fed
-    ensures { λ r. ⌜ (r ≡ fedOf (fed (now (samples .entry)) (length (now (out .entry))) (runOf start (now (line .entry)) (now (words .entry))) (now (input .entry))))
-        × (now (line .exit) ≡ fed (now (samples .entry)) (length (now (out .entry))) (runOf start (now (line .entry)) (now (words .entry))) (now (input .entry)) .run .line)
-        × (now (words .exit) ≡ fed (now (samples .entry)) (length (now (out .entry))) (runOf start (now (line .entry)) (now (words .entry))) (now (input .entry)) .run .words)
-        × (now (out .exit) ≡ sets (now (out .entry)) 0 (fed (now (samples .entry)) (length (now (out .entry))) (runOf start (now (line .entry)) (now (words .entry))) (now (input .entry)) .text)) ⌝ }
+    ensures { λ r. ⌜ (let f = fed (now (samples .entry)) (length (now (out .entry))) (runOf start (now (line .entry)) (now (words .entry))) (now (input .entry)) in
+        (r ≡ fedOf f) × (now (line .exit) ≡ f .run .line) × (now (words .exit) ≡ f .run .words) × (now (out .exit) ≡ sets (now (out .entry)) 0 (f .text))) ⌝ }
     ensures { λ r. ⌜ Moves (length (now (input .entry))) (length (now (out .entry))) r ⌝ }
 {
     let mut state = start;
@@ -124,9 +122,9 @@ pub fn finish(
     words: &mut [u32],
     out: &mut [u8],
 ) -> Obeyed
-    ensures { λ r. ⌜ (r ≡ answered (hasRoom (now (out .entry))) (finished (now (samples .entry)) (runOf state (now (line .entry)) (now (words .entry)))))
-        × (now (words .exit) ≡ wordsAfter (hasRoom (now (out .entry))) (finished (now (samples .entry)) (runOf state (now (line .entry)) (now (words .entry)))) (now (words .entry)))
-        × (now (out .exit) ≡ outAfter (hasRoom (now (out .entry))) (finished (now (samples .entry)) (runOf state (now (line .entry)) (now (words .entry)))) (now (out .entry))) ⌝ }
+    ensures { λ r. ⌜ (let o = finished (now (samples .entry)) (runOf state (now (line .entry)) (now (words .entry))) in
+        let room = hasRoom (now (out .entry)) in
+        (r ≡ answered room o) × (now (words .exit) ≡ wordsAfter room o (now (words .entry))) × (now (out .exit) ≡ outAfter room o (now (out .entry)))) ⌝ }
     ensures { λ r. ⌜ written r ≤ length (now (out .entry)) ⌝ }
 {
     if out.len() < BLOCK_ROOM {

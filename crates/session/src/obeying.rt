@@ -78,9 +78,8 @@ fn block_time(session: Session) -> f64
 // Renders a block into `words`, and prints it.
 fn play(session: Session, samples: &[u32], words: &mut [u32], out: &mut [u8]) -> Answer
     requires { ⌜ blockRoom ≤ length (now out) ⌝ }
-    ensures { λ r. ⌜ (r ≡ answerOf (played (now (samples .entry)) session (now (words .entry))))
-        × (now (words .exit) ≡ playedWords (now (samples .entry)) session (now (words .entry)))
-        × (now (out .exit) ≡ sets (now (out .entry)) 0 (played (now (samples .entry)) session (now (words .entry)) .text)) ⌝ }
+    ensures { λ r. ⌜ (let reply = played (now (samples .entry)) session (now (words .entry)) in
+        (r ≡ answerOf reply) × (now (words .exit) ≡ playedWords (now (samples .entry)) session (now (words .entry))) × (now (out .exit) ≡ sets (now (out .entry)) 0 (reply .text))) ⌝ }
 {
     let player = session.player;
     let number = session.number;
@@ -124,9 +123,8 @@ pub fn obey_line(
     out: &mut [u8],
 ) -> Answer
     requires { ⌜ blockRoom ≤ length (now out) ⌝ }
-    ensures { λ r. ⌜ (r ≡ answerOf (obeyed (now (samples .entry)) session (now (words .entry)) (now (line .entry)) .reply))
-        × (now (words .exit) ≡ obeyed (now (samples .entry)) session (now (words .entry)) (now (line .entry)) .words)
-        × (now (out .exit) ≡ sets (now (out .entry)) 0 (obeyed (now (samples .entry)) session (now (words .entry)) (now (line .entry)) .reply .text)) ⌝ }
+    ensures { λ r. ⌜ (let o = obeyed (now (samples .entry)) session (now (words .entry)) (now (line .entry)) in
+        (r ≡ answerOf (o .reply)) × (now (words .exit) ≡ o .words) × (now (out .exit) ≡ sets (now (out .entry)) 0 (o .reply .text))) ⌝ }
 {
     match text::read_command(line) {
         Command::Start(when, offset, duration) => tell(
@@ -159,9 +157,9 @@ pub fn obey(
     words: &mut [u32],
     out: &mut [u8],
 ) -> Obeyed
-    ensures { λ r. ⌜ (r ≡ answered (hasRoom (now (out .entry))) (obeyed (now (samples .entry)) session (now (words .entry)) (now (line .entry))))
-        × (now (words .exit) ≡ wordsAfter (hasRoom (now (out .entry))) (obeyed (now (samples .entry)) session (now (words .entry)) (now (line .entry))) (now (words .entry)))
-        × (now (out .exit) ≡ outAfter (hasRoom (now (out .entry))) (obeyed (now (samples .entry)) session (now (words .entry)) (now (line .entry))) (now (out .entry))) ⌝ }
+    ensures { λ r. ⌜ (let o = obeyed (now (samples .entry)) session (now (words .entry)) (now (line .entry)) in
+        let room = hasRoom (now (out .entry)) in
+        (r ≡ answered room o) × (now (words .exit) ≡ wordsAfter room o (now (words .entry))) × (now (out .exit) ≡ outAfter room o (now (out .entry)))) ⌝ }
     ensures { λ r. ⌜ written r ≤ length (now (out .entry)) ⌝ }
 {
     if out.len() < BLOCK_ROOM {
