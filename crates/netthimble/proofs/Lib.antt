@@ -1,3 +1,4 @@
 -- What the proofs of `netthimble` share.
 mod Answers
 mod Same
+mod Mute

@@ -1,5 +1,7 @@
 // The library for C (include/netthimble.h): calls of `player`, `clip` and `buffer` whose records go in and come back by value. An
 // answer holds the number of its refusal, 0 for none; a refused call gives back the same player and leaves all lent memory as it was.
+ghost use Rattle.netthimble.specs.Nobody.{NobodyPlays};
+
 mod buffers;
 mod clips;
 mod lent;
@@ -56,3 +58,8 @@ pub struct Copy {
     pub count: usize,
     pub refusal: u32,
 }
+
+// The player of a refused rate never plays.
+pub fn nobody_plays()
+    ensures { λ _. ⌜ NobodyPlays ⌝ }
+{}
