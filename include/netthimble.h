@@ -20,7 +20,9 @@
  *   - a bool is 0 or 1, in an argument and in a record;
  *   - a player's record is one that a call gave, not zeroed or uninitialised memory. Records filled by hand are answered too as long as
  *     their bools are 0 or 1; but no statement about playing holds of them;
- *   - the samples lent to a block are those of the buffer call: only their length is checked. */
+ *   - the samples lent to a block are those of the buffer call: only their length is checked;
+ *   - the thread's floating-point mode is the one that a program starts with: round to nearest, subnormal numbers kept. Audio hosts that
+ *     flush them (FTZ, DAZ), and anything linked with -ffast-math, change answers: netthimble_is_ieee tells. */
 #ifndef NETTHIMBLE_H
 #define NETTHIMBLE_H
 
@@ -299,6 +301,14 @@ static inline uint32_t netthimble_bits(float value) {
     uint32_t bits;
     memcpy(&bits, &value, sizeof bits);
     return bits;
+}
+
+/* Whether this thread rounds to nearest and keeps subnormal numbers, as the proofs take for granted. To be asked once in each thread
+ * that calls the library. */
+static inline bool netthimble_is_ieee(void) {
+    volatile double one = 1.0, half = 1.1102230246251565e-16, tiny = 4.9406564584124654e-324; /* half is 2^-53 */
+    volatile double up = one + half, down = -one - half, away = one + 1.5 * half, twice = tiny + tiny;
+    return up == 1.0 && down == -1.0 && away > 1.0 && twice > tiny;
 }
 
 #ifdef __cplusplus

@@ -18,6 +18,7 @@ static int refused(const char *call, uint32_t number) {
 }
 
 int main(int count, char **words) {
+    if (!netthimble_is_ieee()) return printf("not the default floating-point mode\n"), 1;
     FILE *stream = fopen(count > 1 ? words[1] : "examples/tone/clip.bin", "rb");
     size_t len = stream ? fread(file, 1, sizeof file, stream) : 0;
     netthimble_shaped clip = netthimble_clip_shape(file, len);
@@ -49,6 +50,6 @@ int main(int count, char **words) {
         printf("block %d: %08X %08X %08X .. %08X, position %.9f, ended %d\n", n, (unsigned)out[0], (unsigned)out[1], (unsigned)out[2], (unsigned)out[127], block.position, block.ended);
     }
     free(samples);
-    if (stream != NULL) fclose(stream);
+    fclose(stream);
     return 0;
 }

@@ -131,6 +131,16 @@ def _floats(words):
     return floats
 
 
+_ONE, _HALF, _TINY = 1.0, 2.0**-53, 5e-324
+
+
+def _check_floats():
+    """The library's answers take for granted that the processor rounds to nearest and keeps subnormal numbers, as it does when a program
+    starts. A module built with -ffast-math can change that for the thread that loads it."""
+    if not (_ONE + _HALF == 1.0 and -_ONE - _HALF == -1.0 and _ONE + 1.5 * _HALF > 1.0 and _TINY + _TINY > _TINY):
+        raise RuntimeError("netthimble: this thread's floating-point mode is not IEEE 754's default (another module has changed it)")
+
+
 class Clip:
     """A sound: `channels` channels of `frames` frames at `rate`. Its samples are its own and never change."""
 
@@ -203,12 +213,14 @@ class Player:
     __slots__ = ("_record", "_clip")
 
     def __init__(self, rate):
+        _check_floats()
         told = _CALL["new"](rate)
         if told.refusal:
             raise Refused("player", told.refusal)
         self._record, self._clip = told.player, None
 
     def _tell(self, call, *values):
+        _check_floats()
         told = _CALL[call](self._record, *values)
         if told.refusal:
             raise Refused(call, told.refusal)
@@ -218,6 +230,7 @@ class Player:
         """Gives the player its clip, once; the player holds on to it."""
         if not isinstance(clip, Clip):
             raise TypeError("set_clip takes a netthimble.Clip")
+        _check_floats()
         refusal = _CALL["player_set_buffer"](self._record, *clip._shape, clip._lent, len(clip._lent))
         if refusal:
             raise Refused("set_clip", refusal)
@@ -247,6 +260,7 @@ class Player:
 
     def block(self, time, rate=1.0, factor=1.0):
         """The block at `time` seconds of the context, played at `rate` times `factor`. Times must rise."""
+        _check_floats()
         out, lent = (c_uint32 * _OUT)(), self._clip._lent if self._clip else (c_uint32 * 0)()
         r = _CALL["player_process"](self._record, out, _OUT, lent, len(lent), time, rate, factor)
         if r.refusal:

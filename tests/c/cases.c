@@ -1,9 +1,11 @@
 /* The C library by single calls: the records' bytes, refusals by number and in their order, what stays unchanged, slices up to their last
  * element. Each lent slice ends at a page that nobody may touch. tests/c_cases builds and runs it. */
+#include <fenv.h>
 #include <math.h>
 #include <stdio.h>
 #include <stdlib.h>
 #include <sys/mman.h>
+#include <xmmintrin.h>
 #include "netthimble.h"
 
 static int passed, failed;
@@ -154,24 +156,34 @@ static void buffer_call(void) {
     CHECK(all(samples, 0, 6, 0x3F800000));
 }
 
-static void blocks(void) {
-    netthimble_player p, q;
-    netthimble_block b;
-    uint32_t *samples = lent(6, 0), *out = lent(4097, 7);
+/* Without a buffer no samples are lent: silence, nothing plays. */
+static void silence(void) {
+    netthimble_player p;
+    uint32_t *samples = lent(6, 0), *out = lent(4096, 7);
+    CHECK(netthimble_player_new(&p, 48000.0f) == 0);
+    netthimble_player q = p;
+    netthimble_block b = netthimble_player_process(&q, out, 4096, NULL, 0, 0, 1, 1);
+    CHECK(b.refusal == 0 && !b.keep_alive && !b.ended && b.channels == 1 && b.position == 0);
+    CHECK(all(out, 0, 128, 0) && all(out, 128, 4096, 7));
+    CHECK(netthimble_player_process(&p, out, 4096, samples, 6, 0, 1, 1).refusal == 1);
+}
+
+/* A player at 48,000 with two channels of three frames, 1 2 3 and 4 5 6, started at 0 and looped. */
+static netthimble_player looped(uint32_t *samples) {
+    netthimble_player p;
     for (uint32_t i = 0; i < 6; i++) samples[i] = i + 1;
     CHECK(netthimble_player_new(&p, 48000.0f) == 0);
-    /* without a buffer no samples are lent: silence, nothing plays */
-    q = p;
-    b = netthimble_player_process(&q, out + 1, 4096, NULL, 0, 0, 1, 1);
-    CHECK(b.refusal == 0 && !b.keep_alive && !b.ended && b.channels == 1 && b.position == 0);
-    CHECK(all(out, 1, 129, 0) && all(out, 129, 4097, 7));
-    CHECK(netthimble_player_process(&p, out + 1, 4096, samples, 6, 0, 1, 1).refusal == 1);
     CHECK(netthimble_player_set_buffer(&p, 2, 3, 48000.0f, samples, 6) == 0);
     CHECK(netthimble_player_start(&p, 0, 0, NETTHIMBLE_NEVER) == 0);
     CHECK(netthimble_player_loop(&p, true) == 0);
-    q = p;
-    for (size_t i = 0; i < 4097; i++) out[i] = 7;
-    /* refusals in their order: 8, 13, 14, 1 */
+    return p;
+}
+
+/* Refusals in their order: 8, 13, 14, 1. */
+static void refused_blocks(void) {
+    uint32_t *samples = lent(6, 0), *out = lent(4097, 7);
+    netthimble_player p = looped(samples), q = p;
+    netthimble_block b;
     double bad_time[] = {NAN, INFINITY, -INFINITY, -1, 1073741824.5};
     double bad_factor[] = {NAN, 0, -1, INFINITY, 2.6e-20, 3.7e19};
     CHECK((b = netthimble_player_process(&p, out, 4097, samples, 5, NAN, NAN, NAN)).refusal == 8);
@@ -185,11 +197,16 @@ static void blocks(void) {
     CHECK((b = netthimble_player_process(&p, out + 1, 4096, NULL, 0, 0, 1, 1)).refusal == 1);
     CHECK(!b.keep_alive && !b.ended && b.channels == 0 && b.position == 0);
     CHECK(same(&p, &q) && all(out, 0, 4097, 7));
-    /* an accepted block: two channels, each looped; all else untouched */
+}
+
+/* Two channels, each looped; all else is untouched. */
+static void blocks(void) {
+    uint32_t *samples = lent(6, 0), *out = lent(4097, 7);
+    netthimble_player p = looped(samples);
+    netthimble_block b;
     CHECK((b = netthimble_player_process(&p, out + 1, 4096, samples, 6, 0, 1, 1)).refusal == 0);
-    bool looped = true;
-    for (uint32_t i = 0; i < 128; i++) looped = looped && out[1 + i] == i % 3 + 1 && out[129 + i] == i % 3 + 4;
-    CHECK(looped && out[0] == 7 && all(out, 257, 4097, 7));
+    for (uint32_t i = 0; i < 128; i++) CHECK(out[1 + i] == i % 3 + 1 && out[129 + i] == i % 3 + 4);
+    CHECK(out[0] == 7 && all(out, 257, 4097, 7));
     CHECK(b.keep_alive && !b.ended && b.channels == 2 && b.position == p.render_state.buffer_time);
     CHECK((b = netthimble_player_process(&p, out + 1, 4096, samples, 6, 0, 1, 1)).refusal == 13);
     CHECK((b = netthimble_player_process(&p, out + 1, 4096, samples, 6, 128.0 / 48000.0, 0.5f, 1)).refusal == 0);
@@ -262,11 +279,36 @@ static void buffers(void) {
     CHECK(netthimble_split_shapes(a, 3, 1).refusal == 1);
 }
 
+/* ---- the floating-point mode */
+
+static void floats(void) {
+    int other[] = {FE_UPWARD, FE_DOWNWARD, FE_TOWARDZERO};
+    CHECK(netthimble_is_ieee());
+    for (size_t i = 0; i < 3; i++) {
+        fesetround(other[i]);
+        bool ieee = netthimble_is_ieee();
+        fesetround(FE_TONEAREST);
+        CHECK(!ieee);
+    }
+    unsigned flags[] = {0x8000, 0x0040};
+    for (size_t i = 0; i < 2; i++) {
+        unsigned before = _mm_getcsr();
+        _mm_setcsr(before | flags[i]);
+        bool ieee = netthimble_is_ieee();
+        _mm_setcsr(before);
+        CHECK(!ieee);
+    }
+    CHECK(netthimble_is_ieee());
+}
+
 int main(void) {
+    floats();
     bytes();
     rates();
     messages();
     buffer_call();
+    silence();
+    refused_blocks();
     blocks();
     clips();
     copies();

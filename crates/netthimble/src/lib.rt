@@ -1,5 +1,6 @@
-// The library for C (include/netthimble.h): calls of `player`, `clip` and `buffer` whose records go in and come back by value. An
-// answer holds the number of its refusal, 0 for none; a refused call gives back the same player and leaves all lent memory as it was.
+// The library for C (include/netthimble.h): calls of `player`, `clip` and `buffer`. An answer holds
+// the number of its refusal, 0 for none; a refused call leaves the player and all lent memory as
+// they were.
 ghost use Rattle.netthimble.specs.Nobody.{NobodyPlays};
 
 mod buffers;
