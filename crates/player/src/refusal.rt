@@ -32,13 +32,13 @@ impl Player {
     fn is_bad_block_time(self, time: f64) -> bool
         ensures { λ r. ⌜ r ≡ badBlockTime self time ⌝ }
     {
-        if !is_finite(time) {
+        if time > LATEST {
             return true;
         }
         if time < 0.0 {
             return true;
         }
-        if time > LATEST {
+        if !is_finite(time) {
             return true;
         }
         if self.has_block {

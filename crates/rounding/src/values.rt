@@ -3,11 +3,15 @@ ghost use mathlib.Core.Path.{_≡_};
 ghost use lib.Ieee.Scale.{finite};
 ghost use Rattle.rounding.specs.Rounding.{magnitude, regular, whole};
 
-// A whole number as an f64.
+// A whole number as an f64. The processor has an instruction for signed numbers only.
 pub fn whole(n: usize) -> f64
     ensures { λ r. ⌜ r ≡ whole n ⌝ }
 {
-    std::num::nearest_u64_to_f64(n as u64)
+    if n < 0x8000_0000_0000_0000 {
+        std::num::nearest_i64_to_f64(n as i64)
+    } else {
+        std::num::nearest_u64_to_f64(n as u64)
+    }
 }
 
 // Whether x is neither a NaN nor an infinity.
