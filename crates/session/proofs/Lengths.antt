@@ -88,7 +88,7 @@ message-fits s m = after-message s (handled (s .player) m)
 
 after-block : (s : Session) (words : List ℕ) (x : Rendered) → ((r : BlockReport) → x ≡ block.Block r → r .channels ≤ 32) → length (afterBlock s words x .text) ≤ blockRoom
 unfolding afterBlock
-after-block s words (block.Block r) few = block-fits (s .number) (r .channels) (r .«keep_alive») (r .ended) words (few r refl)
+after-block s words (block.Block r) few = block-fits _ _ _ _ words (few r refl)
 after-block s words (block.Refused number) few = refusal-fits _ number
 
 played-fits : (samples : List ℕ) (s : Session) (words : List ℕ) → length (played samples s words .text) ≤ blockRoom
