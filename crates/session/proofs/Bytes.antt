@@ -6,7 +6,7 @@ use Prim.Native.Nat.{ℕ, zero, suc, _+_, _-_, _≤_, _<_, min}
 use native.Mathlib.Nat.{add-zero, le-of-suc-le-suc, not-suc-le-zero}
 use native.Mathlib.Numerals.{add-one}
 use native.Mathlib.Omega.{arith}
-use borrow.Author.Tests.{ltb-true, ltb-false, leb-true, leb-false, le-leb, lt-leb, lt-ltb, le-ltb, eq-eqb, ne-eqb}
+use borrow.Author.Tests.{ltb-true, ltb-false, leb-true, leb-false, le-leb, lt-leb, eq-eqb, ne-eqb}
 use lib.Dec.{leb, ltb, eqb}
 use lib.ListN.{length, getD, take, drop, set, length-append, length-take, length-drop, drop-of-length-le}
 use lib.Seq.{sets, length-sets, length-take-le, take-all, take-length, drop-cons}
@@ -17,7 +17,7 @@ use Rattle.session.specs.declared.State.{State}
 use Rattle.session.specs.declared.Taken.{Taken}
 use Rattle.session.specs.declared.Fed.{Fed}
 use Rattle.session.specs.Obeying.{Outcome, reply, outcome, obeyed, answerOf}
-use Rattle.session.specs.Feeding.{Run, run, runOf, stateOf, lineObeyed, ended, extended, stepped, said, Progress, progress, advanced, feeding, goesOn, fed, finished, takenOf, fedOf}
+use Rattle.session.specs.Feeding.{Run, run, runOf, stateOf, lineObeyed, ended, lengthened, extended, stepped, said, Progress, progress, advanced, feeding, goesOn, fed, finished, takenOf, fedOf}
 use Rattle.session.proofs.Lengths.{obeyed-fits}
 
 -- ---- lists
@@ -83,15 +83,10 @@ newline-taken samples r b n a words out after is most replied wrote printed =
     let whole : take n (r .line) ≡ take (r .len) (r .line) = ap (λ k. take k (r .line)) most ∙ take-min (r .len) (r .line) in
     simp (eq-eqb b NEWLINE is) (ap (λ (x : Answer). takenBy (x .session) 0 (x .printed)) (rw whole at replied), refl, rw whole at wrote, rw whole at printed)
 
-pub byte-kept : (samples : List ℕ) (r : Run) (b : ℕ) (out : List ℕ) → (b ≡ NEWLINE → ⊥) → r .len < length (r .line)
-    → (takenBy (r .session) (r .len + 1) 0 ≡ takenOf samples r b) × (set (r .line) (r .len) b ≡ stepped samples r b .line) × (r .words ≡ stepped samples r b .words) × (out ≡ sets out 0 (said samples r b))
+pub byte-kept : (samples : List ℕ) (r : Run) (b len : ℕ) (line out : List ℕ) → (b ≡ NEWLINE → ⊥) → len ≡ lengthened (r .len) (length (r .line)) → line ≡ set (r .line) (r .len) b
+    → (takenBy (r .session) len 0 ≡ takenOf samples r b) × (line ≡ stepped samples r b .line) × (r .words ≡ stepped samples r b .words) × (out ≡ sets out 0 (said samples r b))
 unfolding stepped said extended
-byte-kept samples r b out other room = simp (ne-eqb b NEWLINE other, lt-ltb (r .len) (length (r .line)) room) (refl, refl, refl, refl)
-
-pub byte-left-out : (samples : List ℕ) (r : Run) (b : ℕ) (out : List ℕ) → (b ≡ NEWLINE → ⊥) → length (r .line) ≤ r .len
-    → (takenBy (r .session) (r .len) 0 ≡ takenOf samples r b) × (r .line ≡ stepped samples r b .line) × (r .words ≡ stepped samples r b .words) × (out ≡ sets out 0 (said samples r b))
-unfolding stepped said extended
-byte-left-out samples r b out other full = simp (ne-eqb b NEWLINE other, le-ltb (r .len) (length (r .line)) full) (refl, refl, refl, refl)
+byte-kept samples r b len line out other longer put = simp (ne-eqb b NEWLINE other) (ap (λ k. takenBy (r .session) k 0) longer, put, refl, refl)
 
 pub said-fits : (samples : List ℕ) (r : Run) (b : ℕ) → length (said samples r b) ≤ blockRoom
 unfolding said lineObeyed

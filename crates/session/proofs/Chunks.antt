@@ -9,14 +9,14 @@ use native.Mathlib.Omega.{arith}
 use borrow.Author.Tests.{ltb-true, ltb-false, leb-true, leb-false, eqb-true, eqb-false, le-leb, eq-eqb, ne-eqb}
 use lib.Dec.{leb, ltb, eqb}
 use lib.ListN.{length, take, set, length-append, length-set}
-use lib.Seq.{take-all, take-nil, take-append-le, take-suc-set, length-take-le}
+use lib.Seq.{take-all, take-nil, take-append-le, take-suc-set, set-out, length-take-le}
 use Rattle.text.specs.Commands.{command}
 use Rattle.text.specs.Lines.{NEWLINE, blockRoom}
 use Rattle.text.specs.declared.Command.the-variants.{Unknown}
 use Rattle.session.specs.declared.Session.{Session}
 use Rattle.session.specs.declared.Fed.{Fed}
 use Rattle.session.specs.Obeying.{Outcome, obeyed}
-use Rattle.session.specs.Feeding.{Run, run, lineObeyed, ended, extended, stepped, said, Progress, progress, advanced, fitsBehind, feeding, fed, finished, fedOf, Moves}
+use Rattle.session.specs.Feeding.{Run, run, lineObeyed, ended, lengthened, extended, stepped, said, Progress, progress, advanced, fitsBehind, feeding, fed, finished, fedOf, Moves}
 use Rattle.session.specs.Transcript.{linesFrom, texts}
 use Rattle.session.specs.Statement.{Call, left, bytes, printed, longEnough, TranscriptOfChunks}
 use Rattle.session.proofs.Bytes.{said-fits}
@@ -154,40 +154,34 @@ module _ (samples : List ℕ) where
   ended-kept r front k = record { wide = k .wide; used = omega arith; held = sym (take-nil (length (r .line))) }
 
   -- another byte is held if there is room
-  more-kept : (r : Run) (front : List ℕ) (b : ℕ) → Kept r front → (Kept (extended r b) (front ++ (b ∷ []))) × (extended r b .session ≡ r .session) × (extended r b .words ≡ r .words)
-  unfolding extended
+  more-kept : (r : Run) (front : List ℕ) (b : ℕ) → Kept r front → Kept (extended r b) (front ++ (b ∷ []))
+  unfolding extended lengthened
   more-kept r front b k = go (ltb (r .len) (length (r .line))) (ltb-true (r .len) (length (r .line))) (ltb-false (r .len) (length (r .line)))
     where
-      put : Run
-      put = run (r .session) (set (r .line) (r .len) b) (r .len + 1) (r .words)
+      size : length (set (r .line) (r .len) b) ≡ length (r .line)
+      size = length-set (r .line) (r .len) b
 
       longer : length (front ++ (b ∷ [])) ≡ length front + 1
       longer = length-append front (b ∷ [])
 
       go : (t : Bool) → (t ≡ true → r .len < length (r .line)) → (t ≡ false → length (r .line) ≤ r .len)
-          → (Kept (cond t put r) (front ++ (b ∷ []))) × (cond t put r .session ≡ r .session) × (cond t put r .words ≡ r .words)
+          → Kept (run (r .session) (set (r .line) (r .len) b) (cond t (r .len + 1) (r .len)) (r .words)) (front ++ (b ∷ []))
       go true p q =
           let room = p refl in
-          let size = length-set (r .line) (r .len) b in
-          let all : take (length (r .line)) front ≡ front = take-all (length (r .line)) front (omega (arith, k .used)) in (
-            record {
-              wide = omega (arith, k .wide, size);
-              used = omega (arith, k .used, size, longer);
-              held = ap (λ n. take n (set (r .line) (r .len) b)) (add-one (r .len)) ∙ take-suc-set (r .line) (r .len) b room ∙ ap (λ (l : List ℕ). l ++ (b ∷ [])) (k .held ∙ all) ∙ sym (take-all (length (set (r .line) (r .len) b)) (front ++ (b ∷ [])) (omega (arith, k .used, size, longer)));
-            },
-            refl,
-            refl,
-          )
+          let all : take (length (r .line)) front ≡ front = take-all (length (r .line)) front (omega (arith, k .used)) in
+          record {
+            wide = omega (arith, k .wide, size);
+            used = omega (arith, k .used, size, longer);
+            held = ap (λ n. take n (set (r .line) (r .len) b)) (add-one (r .len)) ∙ take-suc-set (r .line) (r .len) b room ∙ ap (λ (l : List ℕ). l ++ (b ∷ [])) (k .held ∙ all) ∙ sym (take-all (length (set (r .line) (r .len) b)) (front ++ (b ∷ [])) (omega (arith, k .used, size, longer)));
+          }
       go false p q =
-          let full = q refl in (
-            record {
-              wide = k .wide;
-              used = omega (arith, k .used, longer);
-              held = k .held ∙ sym (take-append-le (length (r .line)) front (b ∷ []) (omega (arith, k .used)));
-            },
-            refl,
-            refl,
-          )
+          let full = q refl in
+          rw (set-out (r .line) (r .len) b full)
+          (record {
+            wide = k .wide;
+            used = omega (arith, k .used, longer);
+            held = k .held ∙ sym (take-append-le (length (r .line)) front (b ∷ []) (omega (arith, k .used)));
+          })
 
   -- ---- lines
   last-line : (r : Run) (front : List ℕ) → Kept r front → finished samples r .reply .text ≡ texts samples (r .session) (r .words) (linesFrom front [])
@@ -201,11 +195,10 @@ module _ (samples : List ℕ) where
           (ap (λ (o : Outcome). o .reply .text) (obeyed-kept r front k) ∙ sym (append-nil _))
 
   spoken-lines : (r : Run) (front bs : List ℕ) → Kept r front → spoken r bs ++ finished samples (after r bs) .reply .text ≡ texts samples (r .session) (r .words) (linesFrom front bs)
-  unfolding after spoken stepped said ended linesFrom texts
+  unfolding after spoken stepped said ended extended linesFrom texts
   spoken-lines r front [] k = last-line r front k
   spoken-lines r front (b ∷ bs) k =
-      let more = more-kept r front b k in
-      go (eqb b NEWLINE) (spoken-lines (ended samples r) [] bs (ended-kept r front k)) (spoken-lines (extended r b) (front ++ (b ∷ [])) bs (more .0) ∙ rw (more .1, more .2))
+      go (eqb b NEWLINE) (spoken-lines (ended samples r) [] bs (ended-kept r front k)) (spoken-lines (extended r b) (front ++ (b ∷ [])) bs (more-kept r front b k))
     where
       go : (t : Bool) → spoken (ended samples r) bs ++ finished samples (after (ended samples r) bs) .reply .text ≡ texts samples (ended samples r .session) (ended samples r .words) (linesFrom [] bs)
           → spoken (extended r b) bs ++ finished samples (after (extended r b) bs) .reply .text ≡ texts samples (r .session) (r .words) (linesFrom (front ++ (b ∷ [])) bs)

@@ -36,9 +36,12 @@ lineObeyed samples r = obeyed samples (r .session) (r .words) (take (r .len) (r 
 unfoldable pub ended : List ℕ → Run → Run
 ended samples r = run (lineObeyed samples r .reply .session) (r .line) 0 (lineObeyed samples r .words)
 
--- any other byte is put behind the line so far; what has no room is left out
+-- any other byte is put behind the line so far; past the slice's end it has no room, and is left out
+unfoldable pub lengthened : ℕ → ℕ → ℕ
+lengthened len room = cond (ltb len room) (len + 1) len
+
 unfoldable pub extended : Run → ℕ → Run
-extended r b = cond (ltb (r .len) (length (r .line))) (run (r .session) (set (r .line) (r .len) b) (r .len + 1) (r .words)) r
+extended r b = run (r .session) (set (r .line) (r .len) b) (lengthened (r .len) (length (r .line))) (r .words)
 
 unfoldable pub stepped : List ℕ → Run → ℕ → Run
 stepped samples r b = cond (eqb b NEWLINE) (ended samples r) (extended r b)

@@ -1,11 +1,11 @@
 // The bytes of the input, one after another.
 ghost use mathlib.Core.Path.{_≡_};
 ghost use Prim.Native.Nat.{_≤_, min};
-ghost use lib.ListN.{length};
+ghost use lib.ListN.{length, set};
 ghost use lib.Seq.{sets};
 ghost use Rattle.text.specs.Lines.{blockRoom};
 ghost use Rattle.session.specs.Obeying.{hasRoom, answered, wordsAfter, outAfter, written};
-ghost use Rattle.session.specs.Feeding.{runOf, stepped, said, goesOn, fed, finished, takenOf, fedOf, Moves};
+ghost use Rattle.session.specs.Feeding.{runOf, lengthened, stepped, said, goesOn, fed, finished, takenOf, fedOf, Moves};
 use super::Answer;
 use super::Fed;
 use super::Obeyed;
@@ -22,8 +22,19 @@ fn within(len: usize, most: usize) -> usize
     if len < most { len } else { most }
 }
 
-// Takes a byte: a newline ends a line, which is obeyed. Bytes past the end of `line` are left out:
-// it is longer than any command.
+// Puts a byte behind the `len` bytes of the line so far, and returns the length then. Bytes past the
+// end of `line` are left out: it is longer than any command.
+fn keep(len: usize, b: u8, line: &mut [u8]) -> usize
+    ensures { λ r. ⌜ (r ≡ lengthened len (length (now (line .entry)))) × (now (line .exit) ≡ set (now (line .entry)) len b) ⌝ }
+{
+    if len < line.len() {
+        line[len] = b;
+        return len + 1;
+    }
+    len
+}
+
+// Takes a byte: a newline ends a line, which is obeyed.
 fn take_byte(
     state: State,
     b: u8,
@@ -52,17 +63,13 @@ fn take_byte(
             printed: answer.printed,
         };
     }
-    if len < line.len() {
-        line[len] = b;
-        return Taken {
-            state: State {
-                session,
-                len: len + 1,
-            },
-            printed: 0,
-        };
+    Taken {
+        state: State {
+            session,
+            len: keep(len, b, line),
+        },
+        printed: 0,
     }
-    Taken { state, printed: 0 }
 }
 
 // Whether a byte is left, and a block's text has room behind what was printed.

@@ -1,6 +1,6 @@
 -- `session::feeding::take_byte` meets its contract: a newline ends the line, another byte is kept if there is room. Assumes nothing.
 use Rattle.session.specs.Feeding.{runOf}
-use Rattle.session.proofs.Bytes.{length-within, newline-taken, byte-kept, byte-left-out}
+use Rattle.session.proofs.Bytes.{length-within, newline-taken, byte-kept}
 use borrow.Author.Needs.{needs}
 use Rattle.session.proofs.feeding.take_byte.Statement.{statement}
 use Rattle.session.proofs.feeding.take_byte.Tie as tie
@@ -31,24 +31,16 @@ returns c =
     let r = runOf (c .before .before .before .before .before .before .before .before .before .before .before .before .before .before .before .before .args .state) (c .before .before .before .before .before .before .before .before .before .before .before .before .before .before .before .before .args .line .now) (c .before .before .before .before .before .before .before .before .before .before .before .before .before .before .before .before .args .words .now) in
     newline-taken (c .before .before .before .before .before .before .before .before .before .before .before .before .before .before .before .before .args .samples .now) r _ _ _ _ _ _ (c .before .before .before .before .before .before .before .before .before .before .if1 .taken) (c .before .before .before .before .before .before .before .before .before .within .ensures) (c .before .before .before .before .before .obey-line .ensures .0) (c .before .before .before .before .before .obey-line .ensures .1) (c .before .before .before .before .before .obey-line .ensures .2)
 
-slice-write-line : tie.Need-slice-write-line
-slice-write-line c = search needs
-
-add-t23 : tie.Need-add-t23
-add-t23 c = search needs
+keep-requires : tie.Need-keep-requires
+keep-requires c κs = search needs
 
 same-length-4 : tie.Need-same-length-4
 same-length-4 c = search needs
 
 returns-2 : tie.Need-returns-2
 returns-2 c =
-    let r = runOf (c .before .before .before .before .before .before .before .args .state) (c .before .before .before .before .before .before .before .args .line .now) (c .before .before .before .before .before .before .before .args .words .now) in
-    byte-kept (c .before .before .before .before .before .before .before .args .samples .now) r _ _ (c .before .if1 .left) (c .if2 .taken)
-
-returns-3 : tie.Need-returns-3
-returns-3 c =
-    let r = runOf (c .before .before .before .before .before .before .before .args .state) (c .before .before .before .before .before .before .before .args .line .now) (c .before .before .before .before .before .before .before .args .words .now) in
-    byte-left-out (c .before .before .before .before .before .before .before .args .samples .now) r _ _ (c .before .if1 .left) (c .if2 .left)
+    let r = runOf (c .before .before .before .before .before .before .before .before .before .before .args .state) (c .before .before .before .before .before .before .before .before .before .before .args .line .now) (c .before .before .before .before .before .before .before .before .before .before .args .words .now) in
+    byte-kept (c .before .before .before .before .before .before .before .before .before .before .args .samples .now) r _ _ _ _ (c .before .before .before .before .if1 .left) (c .before .before .keep .ensures .0) (c .before .before .keep .ensures .1)
 
 pub take-byte-spec : {M : Type 1} → statement M
 take-byte-spec =
@@ -62,8 +54,6 @@ take-byte-spec =
     same-length-2
     same-length-3
     returns
-    slice-write-line
-    add-t23
+    keep-requires
     same-length-4
-    returns-2
-    returns-3)
+    returns-2)
