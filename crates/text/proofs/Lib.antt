@@ -1,4 +1,5 @@
 -- The laws that the proofs of `text` share.
-mod Stores
+pub mod Stores
 mod OneDigit
-mod Runs
+pub mod Runs
+mod Texts

@@ -7,6 +7,7 @@ pub use commands::read_command;
 pub use lines::BLOCK_ROOM;
 pub use lines::block_text;
 pub use lines::refusal_text;
+ghost use Rattle.text.specs.Statement.{CommandLines};
 
 // A number that was read, if there was one.
 pub enum Number {
@@ -30,3 +31,8 @@ pub enum Printed {
     Bytes(usize),
     Refused,
 }
+
+// A line is a command exactly when it is that command's text.
+pub fn command_lines()
+    ensures { λ _. ⌜ CommandLines ⌝ }
+{}
