@@ -3,7 +3,7 @@ use mathlib.Core.Path.{_≡_, refl, sym, ap, _∙_}
 use mathlib.Core.Bool.{Bool, true, false, _&&_, cond}
 use mathlib.Core.List.{List, [], _∷_, _++_, append-nil}
 use Prim.Native.Nat.{ℕ, zero, suc, _+_, _-_, _≤_, _<_, min}
-use native.Mathlib.Nat.{add-zero, le-of-suc-le-suc, not-suc-le-zero}
+use native.Mathlib.Nat.{le-of-suc-le-suc, not-suc-le-zero}
 use native.Mathlib.Numerals.{add-one}
 use native.Mathlib.Omega.{arith}
 use borrow.Author.Tests.{ltb-true, ltb-false, leb-true, leb-false, le-leb, lt-leb, eq-eqb, ne-eqb}
@@ -11,6 +11,7 @@ use lib.Dec.{leb, ltb, eqb}
 use lib.ListN.{length, getD, take, drop, set, length-append, length-take, length-drop, drop-of-length-le}
 use lib.Seq.{sets, length-sets, length-take-le, take-all, take-length, drop-cons}
 use Rattle.text.specs.Lines.{NEWLINE, blockRoom}
+use Rattle.text.proofs.Stores.{sets-append}
 use Rattle.session.specs.declared.Session.{Session}
 use Rattle.session.specs.declared.Answer.{Answer}
 use Rattle.session.specs.declared.State.{State}
@@ -39,10 +40,6 @@ pub length-within : (n k : ℕ) (l : List ℕ) → n ≡ min k (length l) → n 
 length-within n k l e = sym (length-take-le n l (omega arith))
 
 -- ---- texts stored one after another
-sets-append : (a b l : List ℕ) (i : ℕ) → sets l i (a ++ b) ≡ sets (sets l i a) (i + length a) b
-sets-append [] b l i = ap (λ k. sets l k b) (sym (add-zero i))
-sets-append (x ∷ a) b l i = sets-append a b (set l i x) (suc i) ∙ ap (λ k. sets (sets (set l i x) (suc i) a) k b) (omega arith)
-
 sets-cons : (t l : List ℕ) (x i : ℕ) → sets (x ∷ l) (suc i) t ≡ x ∷ sets l i t
 sets-cons [] l x i = refl
 sets-cons (y ∷ t) l x i = sets-cons t (set l i y) x (suc i)
