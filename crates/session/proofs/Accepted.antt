@@ -1,5 +1,5 @@
 -- An accepted block: the lent output has 4,096 words, and at most 32 channels are answered. Assumes nothing.
-use mathlib.Core.Path.{_≡_, refl, sym, ap, _∙_}
+use mathlib.Core.Path.{_≡_, refl, ap}
 use mathlib.Core.Bool.{Bool, true, false, not, _&&_, cond}
 use Prim.Native.Nat.{ℕ, _≤_}
 use native.Mathlib.Omega.{arith}
@@ -11,7 +11,7 @@ use Rattle.player.specs.Block.{Plan, silent, idle, computedRate, isAligned, ali
 use Rattle.player.specs.declared.Player.{Player}
 use Rattle.player.specs.declared.BlockReport.{BlockReport}
 use Rattle.player.specs.declared.Rendered.the-variants.{Block, Refused}
-use Rattle.buffer.specs.Limits.{validShape, valid}
+use Rattle.buffer.specs.Limits.{valid}
 use Rattle.buffer.specs.Refusals.{SHAPE, LENGTH, TIME, SPEED}
 
 -- a refusal that is 0 has passed every test

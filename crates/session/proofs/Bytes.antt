@@ -17,8 +17,8 @@ use Rattle.session.specs.declared.Answer.{Answer}
 use Rattle.session.specs.declared.State.{State}
 use Rattle.session.specs.declared.Taken.{Taken}
 use Rattle.session.specs.declared.Fed.{Fed}
-use Rattle.session.specs.Obeying.{Outcome, reply, outcome, obeyed, answerOf}
-use Rattle.session.specs.Feeding.{Run, run, runOf, stateOf, lineObeyed, ended, lengthened, extended, stepped, said, Progress, progress, advanced, feeding, goesOn, fed, finished, takenOf, fedOf}
+use Rattle.session.specs.Obeying.{reply, outcome, obeyed, answerOf}
+use Rattle.session.specs.Feeding.{Run, run, runOf, lineObeyed, ended, lengthened, extended, stepped, said, Progress, progress, advanced, feeding, goesOn, fed, finished, takenOf, fedOf}
 use Rattle.session.proofs.Lengths.{obeyed-fits}
 
 -- ---- lists

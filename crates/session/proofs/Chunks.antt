@@ -8,7 +8,7 @@ use native.Mathlib.Numerals.{add-one}
 use native.Mathlib.Omega.{arith}
 use borrow.Author.Tests.{ltb-true, ltb-false, leb-true, leb-false, eqb-true, eqb-false, le-leb, eq-eqb, ne-eqb}
 use lib.Dec.{leb, ltb, eqb}
-use lib.ListN.{length, take, set, length-append, length-set}
+use lib.ListN.{length, take, drop, set, length-append, length-drop, length-set, take-append-drop}
 use lib.Seq.{take-all, take-nil, take-append-le, take-suc-set, set-out, length-take-le}
 use Rattle.text.specs.Commands.{command}
 use Rattle.text.specs.Lines.{NEWLINE, blockRoom}
@@ -18,7 +18,7 @@ use Rattle.session.specs.declared.Fed.{Fed}
 use Rattle.session.specs.Obeying.{Outcome, obeyed}
 use Rattle.session.specs.Feeding.{Run, run, lineObeyed, ended, lengthened, extended, stepped, said, Progress, progress, advanced, fitsBehind, feeding, fed, finished, fedOf, Moves}
 use Rattle.session.specs.Transcript.{linesFrom, texts}
-use Rattle.session.specs.Statement.{Call, left, bytes, printed, longEnough, TranscriptOfChunks}
+use Rattle.session.specs.Statement.{Call, left, bytes, printed, longEnough, AnyCalls, callsFor, callsOf, joined, WholeInput}
 use Rattle.session.proofs.Bytes.{said-fits}
 
 -- ---- a line that is longer than any command is unknown, and so is its front
@@ -210,11 +210,44 @@ module _ (samples : List ℕ) where
   none-kept : (s : Session) (line words : List ℕ) → longEnough ≤ length line → Kept (run s line 0 words) []
   none-kept s line words wide = record { wide = wide; used = omega arith; held = sym (take-nil (length line)) }
 
-pub transcript-of-chunks : TranscriptOfChunks
-transcript-of-chunks samples s line words calls wide =
+pub any-calls : AnyCalls
+any-calls samples s line words calls wide =
     let r = run s line 0 words in
-    let e = calls-text samples r calls in
-    let l = calls-run samples r calls in
-    ap (λ (t : List ℕ). t ++ finished samples (left samples r calls) .reply .text) e
-    ∙ ap (λ (q : Run). spoken samples r (bytes samples r calls) ++ finished samples q .reply .text) l
+    ap (λ (t : List ℕ). t ++ finished samples (left samples r calls) .reply .text) (calls-text samples r calls)
+    ∙ ap (λ (q : Run). spoken samples r (bytes samples r calls) ++ finished samples q .reply .text) (calls-run samples r calls)
     ∙ spoken-lines samples r [] (bytes samples r calls) (none-kept samples s line words wide)
+
+-- ---- the calls for chunks take all bytes of them
+module _ (samples : List ℕ) (room : ℕ) (fits : blockRoom ≤ room) where
+  bytes-append : (r : Run) (xs ys : List Call) → bytes samples r (xs ++ ys) ≡ bytes samples r xs ++ bytes samples (left samples r xs) ys
+  unfolding bytes left
+  bytes-append r [] ys = refl
+  bytes-append r (k ∷ xs) ys =
+      let f = fed samples (k .room) r (k .input) in
+      ap (λ (l : List ℕ). take (f .taken) (k .input) ++ l) (bytes-append (f .run) xs ys) ∙ sym (append-assoc (take (f .taken) (k .input)) _ _)
+
+  chunk-bytes : (n : ℕ) (r : Run) (chunk : List ℕ) → length chunk ≤ n → bytes samples r (callsFor n samples room r chunk) ≡ chunk
+  unfolding callsFor bytes
+  chunk-bytes zero r [] h = refl
+  chunk-bytes zero r (b ∷ bs) h = absurd (not-suc-le-zero h)
+  chunk-bytes (suc n) r [] h = refl
+  chunk-bytes (suc n) r (b ∷ bs) h =
+      let f = fed samples room r (b ∷ bs) in
+      let some = some-taken samples room r (b ∷ bs) (omega arith) fits in
+      let rest : length (drop (f .taken) (b ∷ bs)) ≤ n = omega (arith, length-drop (f .taken) (b ∷ bs), h) in
+      rw (ne-eqb (suc (length bs)) 0 (λ e. omega arith))
+      (ap (λ (l : List ℕ). take (f .taken) (b ∷ bs) ++ l) (chunk-bytes n (f .run) (drop (f .taken) (b ∷ bs)) rest) ∙ take-append-drop (f .taken) (b ∷ bs))
+
+  all-bytes : (r : Run) (chunks : List (List ℕ)) → bytes samples r (callsOf samples room r chunks) ≡ joined chunks
+  unfolding callsOf joined bytes
+  all-bytes r [] = refl
+  all-bytes r (c ∷ cs) =
+      let ks = callsFor (length c) samples room r c in
+      bytes-append r ks (callsOf samples room (left samples r ks) cs)
+      ∙ ap (λ (l : List ℕ). l ++ bytes samples (left samples r ks) (callsOf samples room (left samples r ks) cs)) (chunk-bytes (length c) r c (omega arith))
+      ∙ ap (λ (l : List ℕ). c ++ l) (all-bytes (left samples r ks) cs)
+
+pub whole-input : WholeInput
+whole-input samples s line words room chunks wide fits =
+    let r = run s line 0 words in
+    any-calls samples s line words (callsOf samples room r chunks) wide ∙ ap (λ (l : List ℕ). texts samples s words (linesFrom [] l)) (all-bytes samples room fits r chunks)

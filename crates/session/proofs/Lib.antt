@@ -4,3 +4,4 @@ mod Lengths
 mod Replies
 mod Bytes
 mod Chunks
+mod Late

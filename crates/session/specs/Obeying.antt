@@ -57,7 +57,7 @@ abbrev pub seconds : ℕ → Float
 seconds bits = ofBits binary64 bits
 
 -- ---- blocks
--- `B` lines are counted up to 2 ^ 45. A later one has the time of that number, over 2 ^ 30 at every allowed rate: it is refused with 13, as it would be by its own.
+-- `B` lines are counted up to 2 ^ 45. A later one has the time of that number, over 2 ^ 30 at every allowed rate, and is refused with 13 (`LateBlocks` of Statement.antt).
 abbrev pub mostBlocks : ℕ
 mostBlocks = 35184372088832
 

@@ -1,8 +1,15 @@
--- However an input is cut into chunks, and wherever `feed` stops for want of room, what is printed is the transcript of the bytes that were taken.
+-- What holds of a whole run: however an input is cut into chunks, and wherever `feed` stops for want of room, what is printed is the transcript of the
+-- input; and the last number of a block that is counted is late enough.
 use mathlib.Core.Path.{_≡_}
 use mathlib.Core.List.{List, [], _∷_, _++_}
-use Prim.Native.Nat.{ℕ, _≤_}
-use lib.ListN.{length, take}
+use mathlib.Core.Bool.{true, cond}
+use Prim.Native.Nat.{ℕ, zero, suc, _≤_}
+use lib.Dec.{eqb}
+use lib.ListN.{length, take, drop}
+use Rattle.text.specs.Lines.{blockRoom}
+use Rattle.buffer.specs.Limits.{validRate}
+use Rattle.buffer.specs.Refusals.{TIME}
+use Rattle.session.specs.Obeying.{sessionOf, refused, mostBlocks, nextNumber, played}
 use Rattle.session.specs.Feeding.{Run, run, fed, finished}
 use Rattle.session.specs.Transcript.{transcript}
 use Rattle.session.specs.declared.Session.{Session}
@@ -36,7 +43,39 @@ printed samples r (k ∷ ks) =
 abbrev pub longEnough : ℕ
 longEnough = 53
 
-abbrev pub TranscriptOfChunks : Type 0
-TranscriptOfChunks = (samples : List ℕ) (s : Session) (line words : List ℕ) (calls : List Call) → longEnough ≤ length line
+abbrev pub AnyCalls : Type 0
+AnyCalls = (samples : List ℕ) (s : Session) (line words : List ℕ) (calls : List Call) → longEnough ≤ length line
     → printed samples (run s line 0 words) calls ++ finished samples (left samples (run s line 0 words) calls) .reply .text
     ≡ transcript samples s words (bytes samples (run s line 0 words) calls)
+
+-- ---- the calls for an input that comes in chunks: what a call leaves of a chunk is handed in again
+-- at most n calls for a chunk, with an output of `room` bytes
+unfoldable pub callsFor : ℕ → List ℕ → ℕ → Run → List ℕ → List Call
+callsFor zero samples room r chunk = []
+callsFor (suc n) samples room r chunk =
+    let f = fed samples room r chunk in
+    cond (eqb (length chunk) 0) [] (record { input = chunk; room = room } ∷ callsFor n samples room (f .run) (drop (f .taken) chunk))
+
+unfoldable pub callsOf : List ℕ → ℕ → Run → List (List ℕ) → List Call
+callsOf samples room r [] = []
+callsOf samples room r (c ∷ cs) =
+    let ks = callsFor (length c) samples room r c in
+    ks ++ callsOf samples room (left samples r ks) cs
+
+-- the chunks, one after another
+unfoldable pub joined : List (List ℕ) → List ℕ
+joined [] = []
+joined (c ∷ cs) = c ++ joined cs
+
+abbrev pub WholeInput : Type 0
+WholeInput = (samples : List ℕ) (s : Session) (line words : List ℕ) (room : ℕ) (chunks : List (List ℕ)) → longEnough ≤ length line → blockRoom ≤ room
+    → (let calls = callsOf samples room (run s line 0 words) chunks in
+    printed samples (run s line 0 words) calls ++ finished samples (left samples (run s line 0 words) calls) .reply .text ≡ transcript samples s words (joined chunks))
+
+abbrev pub TranscriptOfChunks : Type 0
+TranscriptOfChunks = AnyCalls × WholeInput
+
+-- `B` lines past the last number that is counted: refused with 13 at every allowed rate
+abbrev pub LateBlocks : Type 0
+LateBlocks = (samples : List ℕ) (s : Session) (words : List ℕ) → validRate (s .player .«sample_rate») ≡ true → length words ≡ 4096 → mostBlocks ≤ s .number
+    → played samples s words ≡ refused (sessionOf (s .player) (nextNumber (s .number))) TIME

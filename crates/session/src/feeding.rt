@@ -16,6 +16,7 @@ use text::BLOCK_ROOM;
 
 const NEWLINE: u8 = 10;
 
+// How much of a line of `len` bytes a slice of `most` bytes holds.
 fn within(len: usize, most: usize) -> usize
     ensures { λ r. ⌜ r ≡ min len most ⌝ }
 {

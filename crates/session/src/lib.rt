@@ -3,7 +3,7 @@
 mod feeding;
 mod obeying;
 
-ghost use Rattle.session.specs.Statement.{TranscriptOfChunks};
+ghost use Rattle.session.specs.Statement.{TranscriptOfChunks, LateBlocks};
 pub use feeding::feed;
 pub use feeding::finish;
 pub use obeying::obey;
@@ -50,4 +50,9 @@ pub struct Fed {
 // lines.
 pub fn transcript_of_chunks()
     ensures { λ _. ⌜ TranscriptOfChunks ⌝ }
+{}
+
+// A block past the last number that is counted is refused with 13 at every allowed rate.
+pub fn late_blocks()
+    ensures { λ _. ⌜ LateBlocks ⌝ }
 {}

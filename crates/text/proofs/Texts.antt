@@ -6,13 +6,13 @@ use mathlib.Core.Logic.{_⊎_, inl, inr}
 use Prim.Native.Nat.{ℕ, zero, suc, _+_, _-_, _*_, _/_, _%_, _^_, _≤_, _<_}
 use native.Mathlib.Nat.{div-div-eq-div-mul}
 use native.Mathlib.Omega.{arith}
-use borrow.Author.Tests.{lt-ltb, le-ltb, le-leb, lt-leb, leb-true, eq-eqb, ne-eqb, eqb-true, eqb-false, ltb-true, ltb-false}
+use borrow.Author.Tests.{lt-ltb, le-ltb, le-leb, lt-leb, leb-true, ne-eqb, eqb-true, eqb-false, ltb-true, ltb-false}
 use lib.Dec.{leb, ltb, eqb}
 use lib.Pow.{pow-add}
 use lib.ListN.{length, getD, take, drop, length-append, length-drop, take-append-drop}
 use lib.Seq.{take-all, drop-drop, drop-cons, drop-append-add, getD-append-add, getD-at}
 use Rattle.text.specs.Digits.{digit, hex, digitValue, hexFrom, hexAt}
-use Rattle.text.specs.Lines.{SPACE, flag}
+use Rattle.text.specs.Lines.{SPACE}
 use Rattle.text.specs.Commands.{at, space, blockCommand, loopCommand, timeOf, timeCommand, startOf, startCommand, command}
 use Rattle.text.specs.Statement.{timeLine, lineOf, IsBits, IsCommand, TextsAreRead, LinesAreTexts}
 use Rattle.text.specs.declared.Number.{Number}
