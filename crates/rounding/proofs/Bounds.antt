@@ -106,9 +106,9 @@ module _ (G D M C P Y q : ℕ) (large : 512 ≤ G) (pos : 0 < D) (some : 6 ≤ Y
       let f = mul-le-mul-right D most in
       (omega arith, omega arith)
 
-  -- the sum rounded once is near the sum rounded twice
-  pub once-near : (T R K : ℕ) → Linked G D M q Y T → Off G D T R → Y ≤ G * K → 3 ≤ K → Within (256 * K) R Y
-  once-near T R K link once y k =
+  -- T / D is near the sum rounded twice
+  pub sum-near : (T K : ℕ) → Linked G D M q Y T → Y ≤ G * K → 3 ≤ K → Within (128 * (K * D)) T (Y * D)
+  sum-near T K link y k =
       let m = product-most in
       let s0 = mul-le-mul-right D (total .0) in
       let s1 = mul-le-mul-right D (total .1) in
@@ -117,9 +117,19 @@ module _ (G D M C P Y q : ℕ) (large : 512 ≤ G) (pos : 0 < D) (some : 6 ≤ Y
       let kk = mul-le-mul-right (G * D) k in
       let g = mul-le-mul-right D large in
       let l = link .0 in
-      let w = link .1 in
-      let z : 0 < 2 * (G * D) = mul-pos (omega arith) (mul-pos (omega arith) pos) in
-      (le-of-mul-le-mul-right {k = 2 * (G * D)} (omega arith) z, le-of-mul-le-mul-right {k = 2 * (G * D)} (omega arith) z)
+      let z : 0 < 2 * G = mul-pos (omega arith) (omega arith) in
+      (le-of-mul-le-mul-right {k = 2 * G} (omega arith) z, le-of-mul-le-mul-right {k = 2 * G} (omega arith) z)
+
+-- and so is the sum rounded once
+pub once-near : (G D T Y R K : ℕ) → 512 ≤ G → 0 < D → Within (128 * (K * D)) T (Y * D) → T ≤ 66 * (Y * D) + D → Off G D T R → Y ≤ G * K → 3 ≤ K → Within (256 * K) R Y
+once-near G D T Y R K large pos near most once y k =
+    let a0 = mul-le-mul-left G (near .0) in
+    let a1 = mul-le-mul-left G (near .1) in
+    let yk = mul-le-mul-right D y in
+    let kk = mul-le-mul-right (G * D) k in
+    let g = mul-le-mul-right D large in
+    let z : 0 < 2 * (G * D) = mul-pos (omega arith) (mul-pos (omega arith) pos) in
+    (le-of-mul-le-mul-right {k = 2 * (G * D)} (omega arith) z, le-of-mul-le-mul-right {k = 2 * (G * D)} (omega arith) z)
 
 -- ---- values and their patterns. H is the weight of the field; the digits d stand at the place k, and e at j
 module _ (H : ℕ) (large : 1024 ≤ H) where

@@ -16,9 +16,10 @@ use Rattle.rounding.specs.Apart.{Apart}
 use Rattle.rounding.specs.Fields.{field, digits, place, negative}
 use Rattle.rounding.specs.Laws.{Within}
 use Rattle.rounding.specs.Rounding.{narrow, fma, magnitude}
+use Rattle.rounding.specs.Tied.{Total}
 use Rattle.rounding.proofs.Error.{grid-near-any, grid-near-whole, grid-under}
-use Rattle.rounding.proofs.Exact.{significand, two-values, value-unique}
-use Rattle.rounding.proofs.Bounds.{Off, Linked, cancel-unit, product-above, product-below, linked-sum, linked-above, linked-below, once-near, near-patterns, at-most-32}
+use Rattle.rounding.proofs.Exact.{two-values, value-unique}
+use Rattle.rounding.proofs.Bounds.{Off, Linked, cancel-unit, product-above, product-below, linked-sum, linked-above, linked-below, sum-near, once-near, near-patterns, at-most-32}
 use Rattle.rounding.proofs.Operations.{add-value, mul-value}
 use Rattle.rounding.proofs.Pattern.{sign-apart}
 use Rattle.rounding.proofs.Product.{fma-value}
@@ -27,7 +28,7 @@ use Rattle.rounding.proofs.SignBit.{low-pattern, magnitude-fits, of-low
 use Rattle.rounding.proofs.Signs.{value-neg, round-not, magnitude-value}
 use Rattle.rounding.proofs.Single.{pat}
 use Rattle.rounding.proofs.Sum.{sum-alike, sum-more, sum-less, sum-none, sum-same, Order, order, less, more, none}
-use Rattle.rounding.proofs.Untied.{parts, not-negative, below-ones, whole-pattern, same-pattern}
+use Rattle.rounding.proofs.Untied.{Parts, parts, not-negative, below-ones, whole-pattern, same-pattern}
 
 -- ---- a finite result has finite operands
 finite-sum : (f : Format) (x y : Float) → T (finite (add f x y)) → (finite x ≡ true) × (finite y ≡ true)
@@ -87,7 +88,7 @@ round-value : (f : Format) (s : Bool) (a c : ℕ) → grid f a c < overflow f �
 round-value f false a c l = round-val f a c l
 round-value f true a c l = subst (λ (x : Float). HasValue x true (grid f a c) (2 ^ low f)) (sym (round-not f false a c)) (value-neg (round f false a c) false (grid f a c) (2 ^ low f) (round-val f a c l))
 
-narrow-round : (s : Bool) (a c : ℕ) → grid binary64 a c < overflow binary64
+pub narrow-round : (s : Bool) (a c : ℕ) → grid binary64 a c < overflow binary64
     → let b = toBits binary64 (round binary64 false a c) in
     narrow (round binary64 s a c) ≡ cond s (2 ^ 31) 0 + pat false (digits binary64 b) (place binary64 b)
 unfolding narrow
@@ -96,28 +97,22 @@ narrow-round s a c l =
     ∙ sign-apart binary32 s (grid binary64 a c) (2 ^ 1074)
     ∙ ap (λ (x : ℕ). cond s (2 ^ 31) 0 + toBits binary32 (round binary32 false x (2 ^ 1074))) (by-digits (round binary64 false a c) false (grid binary64 a c) (round-fits binary64 false a c) (round-val binary64 a c l))
 
--- ---- the two sums as roundings of fractions: N / D is the product, P units are the product rounded, and C units are c. S is the product's sign
-record Product (a b p : Float) : Type 0 where
-  N : ℕ
-  D : ℕ
-  S : Bool
-  pos : 0 < D
-  is : p ≡ round binary64 S N D
-  once : (c : Float) (t : Bool) (C : ℕ) → HasValue c t C (2 ^ 1074) → fma binary64 a b c ≡ sum binary64 S (N * 2 ^ 1074) t (C * D) (D * 2 ^ 1074)
+-- ---- a finite value by the digits and the place of its pattern, with its sign
+finite-no-nan : (x : Float) → T (finite x) → T (not (isNan x))
+unfolding isNan
+finite-no-nan nan h = absurd h
+finite-no-nan (inf s) h = tt
+finite-no-nan (fin s m e) h = tt
 
-product-of : (a b : Float) → finite a ≡ true → finite b ≡ true → Product a b (mul binary64 a b)
-product-of nan b f g = absurd (false≢true f)
-product-of (inf s) b f g = absurd (false≢true f)
-product-of (fin s m e) nan f g = absurd (false≢true g)
-product-of (fin s m e) (inf t) f g = absurd (false≢true g)
-product-of (fin s m e) (fin t n d) f g = record {
-  N = m * up e * (n * up d);
-  D = down e * down d;
-  S = unlike s t;
-  pos = mul-pos (down-pos e) (down-pos d);
-  is = mul-value binary64 (fin s m e) (fin t n d) s t (m * up e) (down e) (n * up d) (down d) (down-pos e) (down-pos d) (refl, refl) (refl, refl);
-  once = λ c v C h. fma-value binary64 (fin s m e) (fin t n d) c s t v (m * up e) (down e) (n * up d) (down d) C (2 ^ 1074) (down-pos e) (down-pos d) (pow-pos 1074) (refl, refl) (refl, refl) h;
-}
+pub by-pattern : (x : Float) → T (fits binary64 x) → T (finite x) → let b = toBits binary64 x in HasValue x (negative binary64 b) (digits binary64 b * 2 ^ place binary64 b) (2 ^ 1074)
+by-pattern x t f = go (eq-or-lt-of-le (field-le binary64 b))
+  where
+    b : ℕ
+    b = toBits binary64 x
+
+    go : (field binary64 b ≡ 2047) ⊎ (field binary64 b < 2047) → HasValue x (negative binary64 b) (digits binary64 b * 2 ^ place binary64 b) (2 ^ 1074)
+    go (inl e) = absurd (subst (λ (y : Float). T (finite y)) (sym (ofBits-toBits binary64 x t) ∙ read-inf binary64 b e (no-nan-bits binary64 x t (finite-no-nan x f))) f)
+    go (inr l) = subst (λ (y : Float). HasValue y (negative binary64 b) (digits binary64 b * 2 ^ place binary64 b) (2 ^ 1074)) (ofBits-toBits binary64 x t) (read binary64 b l)
 
 has-finite : (x : Float) (s : Bool) (i j : ℕ) → HasValue x s i j → T (finite x)
 has-finite nan s i j v = absurd v
@@ -163,8 +158,31 @@ at-least-three k h = le-trans (lit≤ tt) (pow-mono {i = 2} {j = k} (omega arith
 at-least-six : (d k : ℕ) → 2 ^ 52 ≤ d → 897 ≤ k → 6 ≤ d * 2 ^ k
 at-least-six d k h l = let a = mul-le-mul-left d (at-least-three k l) in omega arith
 
+-- ---- x is one rounding of N / D and C, which have the signs S and t: of X / D, with the sign s. It is near the digits d at the place k
+pub record Once (N D C d k : ℕ) (x : Float) (S t s : Bool) : Type 0 where
+  pub X : ℕ
+  pub is : x ≡ round binary64 s X (D * 2 ^ 1074)
+  pub total : Total (unlike S s) (unlike t s) (N * 2 ^ 1074) (C * D) X
+  pub near : Within (128 * (2 ^ k * D)) X (d * 2 ^ k * D)
+  pub most : X ≤ 66 * (d * 2 ^ k * D) + D
+
+record Signed (N D C d k : ℕ) (x y : Float) (S t : Bool) : Type 0 where
+  s : Bool
+  value : HasValue y s (d * 2 ^ k) (2 ^ 1074)
+  once : Once N D C d k x S t s
+
+unlike-self : (s : Bool) → unlike s s ≡ false
+unlike-self true = refl
+unlike-self false = refl
+
+unlike-other : (s t : Bool) → Bool·beq s t ≡ false → (unlike s t ≡ true) × (unlike t s ≡ true)
+unlike-other true true e = absurd (false≢true (sym e))
+unlike-other true false e = (refl, refl)
+unlike-other false true e = (refl, refl)
+unlike-other false false e = absurd (false≢true (sym e))
+
 -- y is P and C, added with the signs s and t and rounded; x is N / D and C. b is y's pattern without its sign
-module _ (N D C b r : ℕ) (pos : 0 < D) (h : Apart b r) (most : grid binary64 N D ≤ 32 * (digits binary64 b * 2 ^ place binary64 b))
+module _ (N D C b : ℕ) (pos : 0 < D) (g : Parts b (digits binary64 b) (place binary64 b)) (most : grid binary64 N D ≤ 32 * (digits binary64 b * 2 ^ place binary64 b))
     (x y : Float) (v : HasValue (magnitude y) false (digits binary64 b * 2 ^ place binary64 b) (2 ^ 1074)) where
   P : ℕ
   P = grid binary64 N D
@@ -174,7 +192,7 @@ module _ (N D C b r : ℕ) (pos : 0 < D) (h : Apart b r) (most : grid binary64 N
 
   some : 6 ≤ Y
   unfolding Y
-  some = let g = parts b r h in at-least-six (digits binary64 b) (place binary64 b) (g .full) (g .low)
+  some = at-least-six (digits binary64 b) (place binary64 b) (g .full) (g .low)
 
   product : Off (2 ^ 53) D (N * 2 ^ 1074) P
   unfolding P
@@ -184,8 +202,8 @@ module _ (N D C b r : ℕ) (pos : 0 < D) (h : Apart b r) (most : grid binary64 N
   unfolding P Y
   small-product = most
 
-  abbrev Result : Bool → Type 0
-  Result s = HasValue y s (digits binary64 b * 2 ^ place binary64 b) (2 ^ 1074) × (narrow x ≡ cond s (2 ^ 31) 0 + r)
+  abbrev Result : Bool → Bool → Type 0
+  Result S t = Signed N D C (digits binary64 b) (place binary64 b) x y S t
 
   -- y is q rounded
   value-of : (s : Bool) (q : ℕ) → y ≡ round binary64 s q (2 ^ 1074) → HasValue y s (grid binary64 q (2 ^ 1074)) (2 ^ 1074)
@@ -201,122 +219,170 @@ module _ (N D C b r : ℕ) (pos : 0 < D) (h : Apart b r) (most : grid binary64 N
   total s q e = subst (λ (z : ℕ). Within q (2 ^ 53 * z) (2 ^ 53 * q)) (rounded-to s q e) (grid-near-whole binary64 q)
 
   -- and x is X / D rounded, near it
-  finish : (s : Bool) (q X : ℕ) → y ≡ round binary64 s q (2 ^ 1074) → x ≡ round binary64 s X (D * 2 ^ 1074) → Linked (2 ^ 53) D (N * 2 ^ 1074) q Y X → Result s
+  finish : (S t s : Bool) (q X : ℕ) → y ≡ round binary64 s q (2 ^ 1074) → x ≡ round binary64 s X (D * 2 ^ 1074) → Linked (2 ^ 53) D (N * 2 ^ 1074) q Y X → Total (unlike S s) (unlike t s) (N * 2 ^ 1074) (C * D) X → Result S t
   unfolding Y P
-  finish s q X ey ex link =
-      let g = parts b r h in
+  finish S t s q X ey ex link made =
       let d : ℕ = digits binary64 b in
       let k : ℕ = place binary64 b in
-      let z : Float = round binary64 false X (D * 2 ^ 1074) in
-      let e : ℕ = digits binary64 (toBits binary64 z) in
-      let j : ℕ = place binary64 (toBits binary64 z) in
-      let R : ℕ = grid binary64 X (D * 2 ^ 1074) in
-      let o : R < overflow binary64 = grid-under binary64 X (D * 2 ^ 1074) (mul-pos pos (pow-pos 1074)) (not-over X (d * 2 ^ k) D (2 ^ 1074) (2 ^ 1023) (link .1) (small d k (g .short) (g .high)) pos) in
-      let w : Within (256 * 2 ^ k) R (d * 2 ^ k) =
-      once-near (2 ^ 53) D (N * 2 ^ 1074) C P (d * 2 ^ k) q (lit≤ tt) pos some product (total s q ey) most X R (2 ^ k) link
-      (cancel-unit (2 ^ 53) D (2 ^ 1074) X R (pow-pos 1074) (grid-near-any binary64 X (D * 2 ^ 1074) (mul-pos pos (pow-pos 1074))))
-      (mul-le-mul-right (2 ^ k) (le-of-lt (g .short))) (at-least-three k (g .low)) in
-      let u : Within (256 * 2 ^ k) (e * 2 ^ j) (d * 2 ^ k) = subst (λ (i : ℕ). Within (256 * 2 ^ k) i (d * 2 ^ k)) (by-digits z false R (round-fits binary64 false X (D * 2 ^ 1074)) (round-val binary64 X (D * 2 ^ 1074) o)) w in
-      let n : Within 512 (j * 2 ^ 52 + e) (k * 2 ^ 52 + d) = near-patterns (2 ^ 52) (lit≤ tt) d k e j (g .full) (g .short) (digits-full binary64 (toBits binary64 z)) (digits-lt binary64 (toBits binary64 z)) u in
-      let p : pat false e j ≡ r = same-pattern b r h e j (digits-lt binary64 (toBits binary64 z)) (digits-full binary64 (toBits binary64 z)) (subst (λ (i : ℕ). Within 512 (j * 2 ^ 52 + e) i) (g .sum) n) in
-      (subst (λ (i : ℕ). HasValue y s i (2 ^ 1074)) (rounded-to s q ey) (value-of s q ey), ap narrow ex ∙ narrow-round s X (D * 2 ^ 1074) o ∙ ap (λ (i : ℕ). cond s (2 ^ 31) 0 + i) p)
+      record {
+        s = s;
+        value = subst (λ (i : ℕ). HasValue y s i (2 ^ 1074)) (rounded-to s q ey) (value-of s q ey);
+        once = record {
+          X = X;
+          is = ex;
+          total = made;
+          near = sum-near (2 ^ 53) D (N * 2 ^ 1074) C P (d * 2 ^ k) q (lit≤ tt) pos some product (total s q ey) most X (2 ^ k) link (mul-le-mul-right (2 ^ k) (le-of-lt (g .short))) (at-least-three k (g .low));
+          most = link .1;
+        };
+      }
 
-  alike : (s : Bool) → y ≡ sum binary64 s P s C (2 ^ 1074) → x ≡ sum binary64 s (N * 2 ^ 1074) s (C * D) (D * 2 ^ 1074) → Result s
+  alike : (s : Bool) → y ≡ sum binary64 s P s C (2 ^ 1074) → x ≡ sum binary64 s (N * 2 ^ 1074) s (C * D) (D * 2 ^ 1074) → Result s s
   alike s ey ex =
       let e = ey ∙ sum-alike binary64 s P C (2 ^ 1074) in
-      finish s (P + C) (N * 2 ^ 1074 + C * D) e (ex ∙ sum-alike binary64 s (N * 2 ^ 1074) (C * D) (D * 2 ^ 1074))
+      finish s s s (P + C) (N * 2 ^ 1074 + C * D) e (ex ∙ sum-alike binary64 s (N * 2 ^ 1074) (C * D) (D * 2 ^ 1074))
       (linked-sum (2 ^ 53) D (N * 2 ^ 1074) C P Y (P + C) (lit≤ tt) pos some product (total s (P + C) e) small-product refl (N * 2 ^ 1074 + C * D) refl)
+      (subst (λ (u : Bool). Total u u (N * 2 ^ 1074) (C * D) (N * 2 ^ 1074 + C * D)) (sym (unlike-self s)) (plus (N * 2 ^ 1074) (C * D)))
+    where
+      plus : (i j : ℕ) → i + j + (0 + 0) ≡ i + j
+      plus i j = omega arith
 
   back : (i j : ℕ) → j < i → i - j + j ≡ i
   back i j l = omega arith
 
-  unalike : (s t : Bool) → Bool·beq s t ≡ false → y ≡ sum binary64 s P t C (2 ^ 1074) → x ≡ sum binary64 s (N * 2 ^ 1074) t (C * D) (D * 2 ^ 1074) → Result s ⊎ Result t
+  back-first : (i j : ℕ) → j < i → i - j + (0 + j) ≡ i + 0
+  back-first i j l = omega arith
+
+  back-second : (i j : ℕ) → j < i → i - j + (j + 0) ≡ 0 + i
+  back-second i j l = omega arith
+
+  unalike : (s t : Bool) → Bool·beq s t ≡ false → y ≡ sum binary64 s P t C (2 ^ 1074) → x ≡ sum binary64 s (N * 2 ^ 1074) t (C * D) (D * 2 ^ 1074) → Result s t
   unalike s t apart ey ex = go (order P C)
     where
-      go : Order P C → Result s ⊎ Result t
+      M : ℕ
+      M = N * 2 ^ 1074
+
+      go : Order P C → Result s t
       go (more l) =
           let e = ey ∙ sum-more binary64 s t P C (2 ^ 1074) apart l in
           let w = total s (P - C) e in
-          let m = product-above (2 ^ 53) D (N * 2 ^ 1074) C P Y (P - C) (lit≤ tt) pos some product w small-product (back P C l) in
-          inl (finish s (P - C) (N * 2 ^ 1074 - C * D) e (ex ∙ sum-more binary64 s t (N * 2 ^ 1074) (C * D) (D * 2 ^ 1074) apart m)
-          (linked-above (2 ^ 53) D (N * 2 ^ 1074) C P Y (P - C) (lit≤ tt) pos some product w small-product (back P C l) (N * 2 ^ 1074 - C * D) (back (N * 2 ^ 1074) (C * D) m)))
+          let m = product-above (2 ^ 53) D M C P Y (P - C) (lit≤ tt) pos some product w small-product (back P C l) in
+          finish s t s (P - C) (M - C * D) e (ex ∙ sum-more binary64 s t M (C * D) (D * 2 ^ 1074) apart m)
+          (linked-above (2 ^ 53) D M C P Y (P - C) (lit≤ tt) pos some product w small-product (back P C l) (M - C * D) (back M (C * D) m))
+          (subst (λ (u : Bool). Total u (unlike t s) M (C * D) (M - C * D)) (sym (unlike-self s)) (subst (λ (u : Bool). Total false u M (C * D) (M - C * D)) (sym (unlike-other s t apart .1)) (back-first M (C * D) m)))
       go (less l) =
           let e = ey ∙ sum-less binary64 s t P C (2 ^ 1074) apart l in
           let w = total t (C - P) e in
-          let m = product-below (2 ^ 53) D (N * 2 ^ 1074) C P Y (C - P) (lit≤ tt) pos some product w small-product (back C P l) in
-          inr (finish t (C - P) (C * D - N * 2 ^ 1074) e (ex ∙ sum-less binary64 s t (N * 2 ^ 1074) (C * D) (D * 2 ^ 1074) apart m)
-          (linked-below (2 ^ 53) D (N * 2 ^ 1074) C P Y (C - P) (lit≤ tt) pos some product w small-product (back C P l) (C * D - N * 2 ^ 1074) (back (C * D) (N * 2 ^ 1074) m)))
+          let m = product-below (2 ^ 53) D M C P Y (C - P) (lit≤ tt) pos some product w small-product (back C P l) in
+          finish s t t (C - P) (C * D - M) e (ex ∙ sum-less binary64 s t M (C * D) (D * 2 ^ 1074) apart m)
+          (linked-below (2 ^ 53) D M C P Y (C - P) (lit≤ tt) pos some product w small-product (back C P l) (C * D - M) (back (C * D) M m))
+          (subst (λ (u : Bool). Total (unlike s t) u M (C * D) (C * D - M)) (sym (unlike-self t)) (subst (λ (u : Bool). Total u false M (C * D) (C * D - M)) (sym (unlike-other s t apart .0)) (back-second (C * D) M m)))
       go (none q) = absurd (nothing Y some (total false 0 (ey ∙ sum-none binary64 s t P C (2 ^ 1074) apart q)))
         where
           nothing : (z : ℕ) → 6 ≤ z → Within 0 (2 ^ 53 * z) (2 ^ 53 * 0) → ⊥
           nothing z l w = omega arith
 
-  either : (s t : Bool) → y ≡ sum binary64 s (grid binary64 N D) t C (2 ^ 1074) → x ≡ sum binary64 s (N * 2 ^ 1074) t (C * D) (D * 2 ^ 1074) → Result s ⊎ Result t
+  either : (s t : Bool) → y ≡ sum binary64 s (grid binary64 N D) t C (2 ^ 1074) → x ≡ sum binary64 s (N * 2 ^ 1074) t (C * D) (D * 2 ^ 1074) → Result s t
   unfolding P
-  either true true ey ex = inl (alike true ey ex)
-  either false false ey ex = inl (alike false ey ex)
+  either true true ey ex = alike true ey ex
+  either false false ey ex = alike false ey ex
   either true false ey ex = unalike true false refl ey ex
   either false true ey ex = unalike false true refl ey ex
 
--- ---- so the narrowed sums are the same
-record Signed (c : Float) : Type 0 where
-  sign : Bool
-  units : ℕ
-  value : HasValue c sign units (2 ^ 1074)
-
-signed : (c : Float) → T (fits binary64 c) → finite c ≡ true → Signed c
-signed nan t f = absurd (false≢true f)
-signed (inf s) t f = absurd (false≢true f)
-signed (fin s n g) t f = let w = significand binary64 (fin s n g) s (n * up g) (down g) t (refl, refl) in record { sign = s; units = w .q * 2 ^ w .j; value = w .value }
-
+-- ---- so the fused sum of three floats
 shared : (i u : ℕ) → i * u * u ≡ i * (u * u)
 shared i u = mul-assoc i u u
 
-pub narrow-alike : (a b c : Float) → T (fits binary64 c) → (r : ℕ)
-    → let p = mul binary64 a b in let y = add binary64 p c in T (not (isNan p)) → T (not (isNan y))
-    → toBits binary64 p % 2 ^ 63 ≤ toBits binary64 y % 2 ^ 63 + 5 * 2 ^ 52 → Apart (toBits binary64 y % 2 ^ 63) r
-    → cond (negative binary64 (toBits binary64 y)) (2 ^ 31) 0 + r ≡ narrow (fma binary64 a b c)
-narrow-alike a b c t r np ny l h =
+-- a float's size in units, by its pattern
+unfoldable pub unitsOf : ℕ → ℕ
+unitsOf b = digits binary64 b * 2 ^ place binary64 b
+
+pub fused-once : (a b c : Float) → T (fits binary64 a) → T (fits binary64 b) → T (fits binary64 c)
+    → let p = mul binary64 a b in let y = add binary64 p c in let n = toBits binary64 y % 2 ^ 63 in T (not (isNan p)) → T (not (isNan y))
+    → toBits binary64 p % 2 ^ 63 ≤ n + 5 * 2 ^ 52 → Parts n (digits binary64 n) (place binary64 n)
+    → Once (unitsOf (toBits binary64 a) * unitsOf (toBits binary64 b)) (2 ^ 1074 * 2 ^ 1074) (unitsOf (toBits binary64 c)) (digits binary64 n) (place binary64 n) (fma binary64 a b c)
+    (negative binary64 (toBits binary64 p)) (negative binary64 (toBits binary64 c)) (negative binary64 (toBits binary64 y))
+unfolding unitsOf
+fused-once a b c ta tb tc np ny l g =
+    let u : ℕ = 2 ^ 1074 in
     let p : Float = mul binary64 a b in
     let y : Float = add binary64 p c in
     let fp = mul-fits binary64 a b in
     let fy = add-fits binary64 p c in
     let n : ℕ = toBits binary64 y % 2 ^ 63 in
-    let Y : ℕ = digits binary64 n * 2 ^ place binary64 n in
-    let v : HasValue (magnitude y) false Y (2 ^ 1074) =
-    subst (λ (s : Bool). HasValue (magnitude y) s Y (2 ^ 1074)) (not-negative n r h)
-    (subst (λ (x : Float). HasValue x (negative binary64 n) Y (2 ^ 1074)) (of-low binary64 y fy ny) (read binary64 n (below-ones n r h))) in
-    let fs = finite-sum binary64 p c (finite-magnitude y (has-finite (magnitude y) false Y (2 ^ 1074) v)) in
+    let d : ℕ = digits binary64 n in
+    let k : ℕ = place binary64 n in
+    let Y : ℕ = d * 2 ^ k in
+    let v : HasValue (magnitude y) false Y u =
+    subst (λ (s : Bool). HasValue (magnitude y) s Y u) (not-negative n d k g)
+    (subst (λ (x : Float). HasValue x (negative binary64 n) Y u) (of-low binary64 y fy ny) (read binary64 n (below-ones n d k g))) in
+    let gy = finite-magnitude y (has-finite (magnitude y) false Y u v) in
+    let fs = finite-sum binary64 p c gy in
     let ff = finite-product binary64 a b (fs .0) in
-    let m = product-of a b (ff .0) (ff .1) in
-    let z = signed c t (fs .1) in
-    let P : ℕ = grid binary64 (m .N) (m .D) in
-    let vp : HasValue p (m .S) P (2 ^ 1074) =
-    subst (λ (x : Float). HasValue x (m .S) P (2 ^ 1074)) (sym (m .is))
-    (round-value binary64 (m .S) (m .N) (m .D) (under-any binary64 (m .S) (m .N) (m .D) (subst (λ (x : Float). T (finite x)) (m .is) (subst T (sym (fs .0)) tt)))) in
-    let k : ℕ = toBits binary64 p % 2 ^ 63 in
-    let ep : P ≡ digits binary64 k * 2 ^ place binary64 k =
-    subst (λ (x : ℕ). P ≡ digits binary64 x * 2 ^ place binary64 x) (sym (low-pattern binary64 p fp np)) (by-digits (magnitude p) false P (magnitude-fits binary64 p fp) (magnitude-value p (m .S) P (2 ^ 1074) vp)) in
-    let g = parts n r h in
+    let va = by-pattern a ta (true-is (finite a) (ff .0)) in
+    let vb = by-pattern b tb (true-is (finite b) (ff .1)) in
+    let vc = by-pattern c tc (true-is (finite c) (fs .1)) in
+    let sa : Bool = negative binary64 (toBits binary64 a) in
+    let sb : Bool = negative binary64 (toBits binary64 b) in
+    let sc : Bool = negative binary64 (toBits binary64 c) in
+    let A : ℕ = digits binary64 (toBits binary64 a) * 2 ^ place binary64 (toBits binary64 a) in
+    let B : ℕ = digits binary64 (toBits binary64 b) * 2 ^ place binary64 (toBits binary64 b) in
+    let C : ℕ = digits binary64 (toBits binary64 c) * 2 ^ place binary64 (toBits binary64 c) in
+    let S : Bool = unlike sa sb in
+    let P : ℕ = grid binary64 (A * B) (u * u) in
+    let ep : p ≡ round binary64 S (A * B) (u * u) = mul-value binary64 a b sa sb A u B u (pow-pos 1074) (pow-pos 1074) va vb in
+    let vp : HasValue p S P u =
+    subst (λ (x : Float). HasValue x S P u) (sym ep) (round-value binary64 S (A * B) (u * u) (under-any binary64 S (A * B) (u * u) (subst (λ (x : Float). T (finite x)) ep (true-is (finite p) (fs .0))))) in
+    let i : ℕ = toBits binary64 p % 2 ^ 63 in
+    let ei : P ≡ digits binary64 i * 2 ^ place binary64 i =
+    subst (λ (x : ℕ). P ≡ digits binary64 x * 2 ^ place binary64 x) (sym (low-pattern binary64 p fp np)) (by-digits (magnitude p) false P (magnitude-fits binary64 p fp) (magnitude-value p S P u vp)) in
     let most : P ≤ 32 * Y =
-    subst (λ (x : ℕ). x ≤ 32 * Y) (sym ep)
-    (at-most-32 (2 ^ 52) (lit≤ tt) (digits binary64 n) (place binary64 n) (digits binary64 k) (place binary64 k) (g .full) (g .short) (digits-full binary64 k) (digits-lt binary64 k)
-    (ordered _ _ k n (whole-pattern k (mod-lt (toBits binary64 p) (pow-pos 63))) (g .sum) l)) in
-    let ey = add-value binary64 p c (m .S) (z .sign) P (2 ^ 1074) (z .units) (2 ^ 1074) (pow-pos 1074) (pow-pos 1074) vp (z .value)
-    ∙ sum-same binary64 (m .S) (z .sign) (P * 2 ^ 1074) (z .units * 2 ^ 1074) (2 ^ 1074 * 2 ^ 1074) P (z .units) (2 ^ 1074) (mul-pos (pow-pos 1074) (pow-pos 1074)) (pow-pos 1074) (shared P (2 ^ 1074)) (shared (z .units) (2 ^ 1074)) in
-    let B : ℕ = toBits binary64 y in
-    let I : ℕ = digits binary64 B * 2 ^ place binary64 B in
-    let vy : HasValue y (negative binary64 B) I (2 ^ 1074) = subst (λ (x : Float). HasValue x (negative binary64 B) I (2 ^ 1074)) (ofBits-toBits binary64 y fy) (read binary64 (toBits binary64 y) (low-field (toBits binary64 y) (h .most))) in
-    ends y (fma binary64 a b c) Y (negative binary64 B) I vy (m .S) (z .sign) r
-    (either (m .N) (m .D) (z .units) n r (m .pos) h most (fma binary64 a b c) y v (m .S) (z .sign) ey (m .once c (z .sign) (z .units) (z .value)))
+    subst (λ (x : ℕ). x ≤ 32 * Y) (sym ei)
+    (at-most-32 (2 ^ 52) (lit≤ tt) d k (digits binary64 i) (place binary64 i) (g .full) (g .short) (digits-full binary64 i) (digits-lt binary64 i)
+    (ordered _ _ i n (whole-pattern i (mod-lt (toBits binary64 p) (pow-pos 63))) (g .sum) l)) in
+    let ey = add-value binary64 p c S sc P u C u (pow-pos 1074) (pow-pos 1074) vp vc
+    ∙ sum-same binary64 S sc (P * u) (C * u) (u * u) P C u (mul-pos (pow-pos 1074) (pow-pos 1074)) (pow-pos 1074) (shared P u) (shared C u) in
+    let ex = fma-value binary64 a b c sa sb sc A u B u C u (pow-pos 1074) (pow-pos 1074) (pow-pos 1074) va vb vc in
+    let r = either (A * B) (u * u) C n (mul-pos (pow-pos 1074) (pow-pos 1074)) g most (fma binary64 a b c) y v S sc ey ex in
+    let hs : r .s ≡ negative binary64 (toBits binary64 y) = sym (same-sign y (r .s) (negative binary64 (toBits binary64 y)) Y u _ u (r .value) (by-pattern y fy gy)) in
+    let hp : S ≡ negative binary64 (toBits binary64 p) = sym (same-sign p S (negative binary64 (toBits binary64 p)) P u _ u vp (by-pattern p fp (true-is (finite p) (fs .0)))) in
+    subst (λ (z : Bool). Once (A * B) (u * u) C d k (fma binary64 a b c) z sc (negative binary64 (toBits binary64 y))) hp (subst (λ (z : Bool). Once (A * B) (u * u) C d k (fma binary64 a b c) S sc z) hs (r .once))
   where
     ordered : (i j k n : ℕ) → i ≡ k → j ≡ n → k ≤ n + 5 * 2 ^ 52 → i ≤ j + 5 * 2 ^ 52
     ordered i j k n e f l = omega arith
 
-    low-field : (b : ℕ) → b % 2 ^ 63 < 1150 * 2 ^ 52 → field binary64 b < 2047
-    low-field b l = omega arith
+    true-is : (t : Bool) → t ≡ true → T t
+    true-is t e = subst T (sym e) tt
 
-    ends : (y x : Float) (Y : ℕ) (u : Bool) (i : ℕ) → HasValue y u i (2 ^ 1074) → (s t : Bool) (r : ℕ)
-        → (HasValue y s Y (2 ^ 1074) × (narrow x ≡ cond s (2 ^ 31) 0 + r)) ⊎ (HasValue y t Y (2 ^ 1074) × (narrow x ≡ cond t (2 ^ 31) 0 + r)) → cond u (2 ^ 31) 0 + r ≡ narrow x
-    ends y x Y u i w s t r (inl e) = ap (λ (z : Bool). cond z (2 ^ 31) 0 + r) (same-sign y s u Y (2 ^ 1074) i (2 ^ 1074) (e .0) w) ∙ sym (e .1)
-    ends y x Y u i w s t r (inr e) = ap (λ (z : Bool). cond z (2 ^ 31) 0 + r) (same-sign y t u Y (2 ^ 1074) i (2 ^ 1074) (e .0) w) ∙ sym (e .1)
+-- it does not overflow
+pub once-under : (N D C b : ℕ) (x : Float) (S t s : Bool) → 0 < D → Parts b (digits binary64 b) (place binary64 b) → (w : Once N D C (digits binary64 b) (place binary64 b) x S t s)
+    → grid binary64 (w .X) (D * 2 ^ 1074) < overflow binary64
+once-under N D C b x S t s pos g w =
+    grid-under binary64 (w .X) (D * 2 ^ 1074) (mul-pos pos (pow-pos 1074)) (not-over (w .X) (digits binary64 b * 2 ^ place binary64 b) D (2 ^ 1074) (2 ^ 1023) (w .most) (small (digits binary64 b) (place binary64 b) (g .short) (g .high)) pos)
+
+-- ---- where y is apart from the ties, x is narrowed as y is
+narrow-near : (N D C b r : ℕ) (x : Float) (S t s : Bool) → 0 < D → Apart b r → Once N D C (digits binary64 b) (place binary64 b) x S t s → cond s (2 ^ 31) 0 + r ≡ narrow x
+narrow-near N D C b r x S t s pos h w =
+    let g = parts b (h .least) (h .most) in
+    let d : ℕ = digits binary64 b in
+    let k : ℕ = place binary64 b in
+    let X : ℕ = w .X in
+    let E : ℕ = D * 2 ^ 1074 in
+    let z : Float = round binary64 false X E in
+    let e : ℕ = digits binary64 (toBits binary64 z) in
+    let j : ℕ = place binary64 (toBits binary64 z) in
+    let R : ℕ = grid binary64 X E in
+    let o = once-under N D C b x S t s pos g w in
+    let m : Within (256 * 2 ^ k) R (d * 2 ^ k) =
+    once-near (2 ^ 53) D X (d * 2 ^ k) R (2 ^ k) (lit≤ tt) pos (w .near) (w .most) (cancel-unit (2 ^ 53) D (2 ^ 1074) X R (pow-pos 1074) (grid-near-any binary64 X E (mul-pos pos (pow-pos 1074))))
+    (mul-le-mul-right (2 ^ k) (le-of-lt (g .short))) (at-least-three k (g .low)) in
+    let u : Within (256 * 2 ^ k) (e * 2 ^ j) (d * 2 ^ k) = subst (λ (i : ℕ). Within (256 * 2 ^ k) i (d * 2 ^ k)) (by-digits z false R (round-fits binary64 false X E) (round-val binary64 X E o)) m in
+    let n : Within 512 (j * 2 ^ 52 + e) (k * 2 ^ 52 + d) = near-patterns (2 ^ 52) (lit≤ tt) d k e j (g .full) (g .short) (digits-full binary64 (toBits binary64 z)) (digits-lt binary64 (toBits binary64 z)) u in
+    let p : pat false e j ≡ r = same-pattern b r h e j (digits-lt binary64 (toBits binary64 z)) (digits-full binary64 (toBits binary64 z)) (subst (λ (i : ℕ). Within 512 (j * 2 ^ 52 + e) i) (g .sum) n) in
+    sym (ap narrow (w .is) ∙ narrow-round s X E o ∙ ap (λ (i : ℕ). cond s (2 ^ 31) 0 + i) p)
+
+pub narrow-alike : (a b c : Float) → T (fits binary64 a) → T (fits binary64 b) → T (fits binary64 c) → (r : ℕ)
+    → let p = mul binary64 a b in let y = add binary64 p c in T (not (isNan p)) → T (not (isNan y))
+    → toBits binary64 p % 2 ^ 63 ≤ toBits binary64 y % 2 ^ 63 + 5 * 2 ^ 52 → Apart (toBits binary64 y % 2 ^ 63) r
+    → cond (negative binary64 (toBits binary64 y)) (2 ^ 31) 0 + r ≡ narrow (fma binary64 a b c)
+narrow-alike a b c ta tb tc r np ny l h =
+    narrow-near _ (2 ^ 1074 * 2 ^ 1074) _ _ r (fma binary64 a b c) _ _ _ (mul-pos (pow-pos 1074) (pow-pos 1074)) h (fused-once a b c ta tb tc np ny l (parts _ (h .least) (h .most)))

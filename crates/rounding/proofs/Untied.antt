@@ -1,5 +1,5 @@
 -- A pattern apart from the ties (`Apart`), and the f32 pattern of every value near it. Assumes nothing.
-use mathlib.Core.Path.{_≡_, ap, _∙_}
+use mathlib.Core.Path.{_≡_, refl, ap, _∙_}
 use mathlib.Core.Logic.{inl, inr}
 use mathlib.Core.Bool.{false, cond}
 use Prim.Native.Nat.{ℕ, _+_, _-_, _*_, _/_, _%_, _^_, _≤_, _<_, min}
@@ -36,25 +36,30 @@ whole-pattern b l = go (order (field binary64 b) 0)
         differ e h = omega arith
     go (none e) = rw (eq-eqb (field binary64 b) 0 e) (omega arith)
 
-module _ (b r : ℕ) (h : Apart b r) where
-  the-field : field binary64 b ≡ b / 2 ^ 52
-  the-field = omega (arith, h .least, h .most)
-
+-- a pattern in the f32's normal range
+module _ (b : ℕ) (least : 898 * 2 ^ 52 ≤ b) (most : b < 1150 * 2 ^ 52) where
   some-field : field binary64 b ≡ 0 → ⊥
-  some-field e = omega (arith, h .least, h .most)
+  some-field e = omega arith
+
+  pub digits-are : digits binary64 b ≡ 2 ^ 52 + b % 2 ^ 52
+  unfolding digits
+  digits-are = rw (ne-eqb (field binary64 b) 0 some-field) refl
+
+  pub place-is : place binary64 b ≡ b / 2 ^ 52 - 1
+  unfolding place
+  place-is = omega arith
 
   pub parts : Parts b (digits binary64 b) (place binary64 b)
-  unfolding digits place
-  parts =
-      rw (ne-eqb (field binary64 b) 0 some-field)
-      (record { sum = omega (arith, h .least, h .most); full = omega (arith, h .least, h .most); short = omega (arith, h .least, h .most); low = omega (arith, h .least, h .most); high = omega (arith, h .least, h .most) })
+  parts = let d = digits-are in let k = place-is in record { sum = omega arith; full = omega arith; short = omega arith; low = omega arith; high = omega arith }
 
+module _ (b d k : ℕ) (g : Parts b d k) where
   pub not-negative : negative binary64 b ≡ false
-  not-negative = lt-leb (2 ^ 63) b (omega (arith, h .most))
+  not-negative = lt-leb (2 ^ 63) b (omega arith)
 
   pub below-ones : field binary64 b < 2047
-  below-ones = omega (arith, h .most)
+  below-ones = omega arith
 
+module _ (b r : ℕ) (h : Apart b r) where
   -- the digits e at the place j, whose pattern is at most 512 from b
   high-place : (e j : ℕ) → e < 2 * 2 ^ 52 → Within 512 (j * 2 ^ 52 + e) b → 896 ≤ j
   high-place e j s w = omega (arith, h .least)

@@ -5,9 +5,15 @@
 // f32, unless a tie of two f32 values lies as close to y.
 ghost use mathlib.Core.Path.{_≡_};
 ghost use mathlib.Core.Logic.{_⊎_};
-ghost use lib.Ieee.{binary64};
+ghost use mathlib.Core.Bool.{cond, true};
+ghost use Prim.Native.Nat.{_+_, _*_, _/_, _%_, _^_, _<_, _≤_};
+ghost use lib.Ieee.{binary64, unlike};
 ghost use Rattle.rounding.specs.Apart.{Apart};
+ghost use Rattle.rounding.specs.Fields.{negative};
 ghost use Rattle.rounding.specs.Rounding.{fma, narrow};
+ghost use Rattle.rounding.specs.Tied.{Beside, Reach, Sided, Tied};
+use super::bits::digits_of;
+use super::bits::place_of;
 use super::fused::fma;
 use super::narrowing::narrow;
 
@@ -30,6 +36,113 @@ fn untied(bits: u64) -> u64
     0
 }
 
+// Whether the signs of two patterns differ.
+fn opposed(a: u64, b: u64) -> bool
+    ensures { λ r. ⌜ r ≡ unlike (negative binary64 a) (negative binary64 b) ⌝ }
+{
+    a >> 63 != b >> 63
+}
+
+// The last 64 digits of a product, by halves of the first factor.
+fn low_product(a: u64, b: u64) -> u64
+    requires { ⌜ (a < 2 ^ 53) × (b < 2 ^ 24) ⌝ }
+    ensures { λ r. ⌜ r ≡ a * b % 2 ^ 64 ⌝ }
+{
+    let high = (a / 0x1_0000_0000 * b) << 32;
+    std::num::wrapping_add_u64(high, a % 0x1_0000_0000 * b)
+}
+
+// The last 64 digits of v and x, added, or of v without x.
+fn joined(v: u64, x: u64, taken: bool) -> u64
+    ensures { λ r. ⌜ (r + cond taken x 0) % 2 ^ 64 ≡ (v + cond taken 0 x) % 2 ^ 64 ⌝ }
+{
+    if taken {
+        std::num::wrapping_sub_u64(v, x)
+    } else {
+        std::num::wrapping_add_u64(v, x)
+    }
+}
+
+// The f32 pattern of the sum of m and c, of each of which only the last 64 digits are given. They
+// tell how far the sum is from the tie beside it, for it is near the pattern `size`: more than half
+// of the last digit of an f64 above it, or below it, or so close that an f64 lies on the tie.
+fn beside(size: u64, j: u64, p: bool, q: bool, m: u64, c: u64) -> u64
+    requires { ⌜ Beside size × (1 ≤ j) × (j ≤ 50) ⌝ }
+    ensures { λ r. ⌜ Sided size j p q m c r ⌝ }
+{
+    let half = 1 << (j - 1);
+    let digits = 0x10_0000_0000_0000 + size % 0x10_0000_0000_0000;
+    let tie = (digits / 0x2000_0000 * 0x2000_0000 + 0x1000_0000) << j;
+    let sum = joined(joined(half, m, p), c, q);
+    let above = std::num::wrapping_sub_u64(sum, tie);
+    let lower = size / 0x2000_0000 - 0x1_c000_0000;
+    if above <= 2 * half {
+        lower + lower % 2
+    } else if above < 0x8000_0000_0000_0000 {
+        lower + 1
+    } else {
+        lower
+    }
+}
+
+// Whether a pattern is in the f32's normal range, with a tie at most 512 from it.
+fn is_beside(size: u64) -> bool
+    ensures { λ r. ⌜ (r ≡ true → Beside size) ⌝ }
+{
+    if size < 0x3820_0000_0000_0000 {
+        return false;
+    }
+    if size >= 0x47e0_0000_0000_0000 {
+        return false;
+    }
+    (size + 0x1000_0200) % 0x2000_0000 <= 1024
+}
+
+// Whether b has at most 24 digits, and the places y and t are not below x, and not far above it.
+fn in_reach(b: u64, x: u64, y: u64, t: u64) -> bool
+    ensures { λ r. ⌜ (r ≡ true → Reach b x y t) ⌝ }
+{
+    if y < x {
+        return false;
+    }
+    if t <= x {
+        return false;
+    }
+    if y - x >= 64 {
+        return false;
+    }
+    if t - x > 50 {
+        return false;
+    }
+    b % 0x2000_0000 == 0
+}
+
+// The f32 pattern of a * b + c without its sign, from the patterns of the three and that of the sum
+// by the operators, `size`; and 0 where no tie is close to it, b has more than 24 digits, or the
+// terms lie too far from one another.
+fn near_tie(a: u64, b: u64, c: u64, size: u64, p: bool, q: bool) -> u64
+    ensures { λ r. ⌜ (r ≡ 0) ⊎ Tied a b c size p q r ⌝ }
+{
+    if is_beside(size) {
+        let x = place_of(a) + place_of(b) + 29;
+        let y = place_of(c) + 1074;
+        let t = size / 0x10_0000_0000_0000 + 1073;
+        if in_reach(b, x, y, t) {
+            let m = low_product(digits_of(a), digits_of(b) / 0x2000_0000);
+            return beside(size, t - x, p, q, m, digits_of(c) << (y - x));
+        }
+    }
+    0
+}
+
+// An f32's pattern with the sign of an f64's.
+fn signed(bits: u64, pattern: u64) -> u32
+    requires { ⌜ bits / 2 ^ 63 * 2 ^ 31 + pattern < 2 ^ 32 ⌝ }
+    ensures { λ r. ⌜ r ≡ cond (negative binary64 bits) (2 ^ 31) 0 + pattern ⌝ }
+{
+    ((bits >> 63) * 0x8000_0000 + pattern) as u32
+}
+
 // The f32 pattern of a * b + c rounded once. A pattern without its sign that is larger by 5 in the
 // exponent's field stands for 32 times the value.
 pub fn fma_narrow(a: f64, b: f64, c: f64) -> u32
@@ -40,10 +153,25 @@ pub fn fma_narrow(a: f64, b: f64, c: f64) -> u32
     if y == y {
         let bits = f64::to_bits(y);
         let size = bits % 0x8000_0000_0000_0000;
-        if f64::to_bits(p) % 0x8000_0000_0000_0000 <= size + 0x50_0000_0000_0000 {
+        let product = f64::to_bits(p);
+        if product % 0x8000_0000_0000_0000 <= size + 0x50_0000_0000_0000 {
             let pattern = untied(size);
             if pattern > 0 {
-                return ((bits >> 63) * 0x8000_0000 + pattern) as u32;
+                return signed(bits, pattern);
+            }
+            let term = f64::to_bits(c);
+            let p_taken = opposed(product, bits);
+            let c_taken = opposed(term, bits);
+            let tied = near_tie(
+                f64::to_bits(a),
+                f64::to_bits(b),
+                term,
+                size,
+                p_taken,
+                c_taken,
+            );
+            if tied > 0 {
+                return signed(bits, tied);
             }
         }
     }

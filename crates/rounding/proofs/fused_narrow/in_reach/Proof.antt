@@ -1,0 +1,28 @@
+-- `rounding::fused_narrow::in_reach` meets its contract. Assumes nothing.
+use mathlib.Core.Bool.{false≢true}
+use native.Mathlib.Omega.{arith}
+use borrow.Author.Needs.{needs}
+use borrow.Author.Tests.{eqb-true}
+use Rattle.rounding.proofs.fused_narrow.in_reach.Statement.{statement}
+use Rattle.rounding.proofs.fused_narrow.in_reach.Tie as tie
+
+returns : tie.Need-returns
+returns c = λ e. absurd (false≢true e)
+
+returns-2 : tie.Need-returns-2
+returns-2 c = λ e. absurd (false≢true e)
+
+returns-3 : tie.Need-returns-3
+returns-3 c = λ e. absurd (false≢true e)
+
+sub-if4 : tie.Need-sub-if4
+sub-if4 c = search needs
+
+returns-4 : tie.Need-returns-4
+returns-4 c = λ e. absurd (false≢true e)
+
+returns-5 : tie.Need-returns-5
+returns-5 c = λ e. let l = eqb-true _ _ e in record { narrow = l; first = omega arith; first-near = omega arith; second = omega arith; second-near = omega arith }
+
+pub in-reach-spec : {M : Type 1} → statement M
+in-reach-spec = tie.close (tie.spec returns returns-2 returns-3 sub-if4 returns-4 returns-5)
