@@ -4,7 +4,7 @@ use mathlib.Core.Bool.{Bool, true, false, cond, false≢true}
 use Prim.Native.Nat.{ℕ, zero, suc, _+_, _-_, _*_, _/_, _%_, _^_, _≤_, _<_, compare, Ordering, Ordering·eq}
 use native.Mathlib.Nat.{mul-add-div-right, mul-add-mod-self-right, div-eq-of-lt, mod-eq-of-lt, mul-le-mul-right, lt-of-mul-lt-mul-right, mod-add-mod, div-add-mod', pow-succ'}
 use native.Mathlib.Omega.{arith}
-use lib.Dec.{leb, eqb}
+use lib.Dec.{leb}
 use lib.Pow.{pow-mono, pow-pos}
 use lib.Ieee.{binary64, nearest}
 use lib.Ieee.Nearest.{closest}
@@ -14,8 +14,9 @@ use Rattle.rounding.specs.Laws.{Within}
 use Rattle.rounding.specs.Tied.{Beside, Reach, Sided, Tied, Total, LowTotal, twiceRounded}
 use Rattle.rounding.proofs.Bounds.{closest-is}
 use Rattle.rounding.proofs.Closest.{compare-is, closest-near}
+use Rattle.rounding.proofs.Read.{field-le}
 use Rattle.rounding.proofs.Sum.{Order, order, less, more, none}
-use Rattle.rounding.proofs.Untied.{digits-are, place-is}
+use Rattle.rounding.proofs.Untied.{normal-digits, place-field, digits-are, place-is}
 use Rattle.rounding.proofs.Words.{product-lt}
 
 -- ---- ties
@@ -202,27 +203,28 @@ low-total true false m c e t = omega arith
 low-total false true m c e t = omega arith
 low-total false false m c e t = omega arith
 
-few-digits : (b : ℕ) → b % 2 ^ 29 ≡ 0 → digits binary64 b % 2 ^ 29 ≡ 0
-unfolding digits
-few-digits b h = go (eqb (field binary64 b) 0)
-  where
-    go : (z : Bool) → cond z (b % 2 ^ 52) (2 ^ 52 + b % 2 ^ 52) % 2 ^ 29 ≡ 0
-    go true = omega arith
-    go false = omega arith
-
-pub tied : (a b c n : ℕ) (p q : Bool) (x y t u v w m r : ℕ) → Beside n → Reach b x y t → x ≡ place binary64 a + place binary64 b + 29 → y ≡ place binary64 c + 1074 → t ≡ n / 2 ^ 52 + 1073
-    → u ≡ digits binary64 a → v ≡ digits binary64 b → w ≡ digits binary64 c → m ≡ u * (v / 2 ^ 29) % 2 ^ 64 → Sided n (t - x) p q m (w * 2 ^ (y - x) % 2 ^ 64) r → Tied a b c n p q r
-tied a b c n p q x y t u v w m r h g ex ey et eu ev ew em s =
-    let k = place-is n (h .least) (h .most) in
+pub tied : (a b c n : ℕ) (p q : Bool) (f e g x i j u v w m r : ℕ) → Beside n → Reach b e i j → f ≡ field binary64 a → e ≡ field binary64 b → g ≡ field binary64 c → x ≡ f + e + 27
+    → (i + x) % 2 ^ 64 ≡ g + 1073 → (j + x) % 2 ^ 64 ≡ n / 2 ^ 52 + 1073 → u ≡ 2 ^ 52 + a % 2 ^ 52 → v ≡ 2 ^ 52 + b % 2 ^ 52 → w ≡ 2 ^ 52 + c % 2 ^ 52 → m ≡ u * (v / 2 ^ 29) % 2 ^ 64
+    → Sided n j p q m (w * 2 ^ i % 2 ^ 64) r → Tied a b c n p q r
+tied a b c n p q f e g x i j u v w m r h k ef ee eg ex ei ej eu ev ew em s =
+    let t = place-is n (h .least) (h .most) in
+    let fa = field-le binary64 a in
+    let fc = field-le binary64 c in
+    let la = place-field a in
+    let lb = place-field b in
+    let lc = place-field c in
+    let nb : 0 < field binary64 b = omega (arith, k .some) in
+    let na : 0 < field binary64 a = omega (arith, k .few, k .second-few, h .least, h .most) in
+    let nc : 0 < field binary64 c = omega (arith, k .first, k .second-few, h .least, h .most) in
+    let da : u ≡ digits binary64 a = eu ∙ sym (normal-digits a na) in
+    let db : v ≡ digits binary64 b = ev ∙ sym (normal-digits b nb) in
+    let dc : w ≡ digits binary64 c = ew ∙ sym (normal-digits c nc) in
     record {
       beside = h;
-      i = y - x;
-      j = t - x;
-      narrow = few-digits b (g .narrow);
-      first = omega (arith, g .first);
-      second = omega (arith, g .second, h .least);
-      is = λ e o near. s e (subst (λ (z : ℕ). LowTotal p q z (w * 2 ^ (y - x) % 2 ^ 64) e) (sym (em ∙ terms)) (subst (λ (z : ℕ). LowTotal p q (digits binary64 a * (digits binary64 b / 2 ^ 29) % 2 ^ 64) (z * 2 ^ (y - x) % 2 ^ 64) e) (sym ew) (low-total p q (digits binary64 a * (digits binary64 b / 2 ^ 29)) (digits binary64 c * 2 ^ (y - x)) e o))) near;
+      i = i;
+      j = j;
+      narrow = omega (arith, k .narrow);
+      first = omega (arith, k .first);
+      second = omega (arith, k .second-few, h .least, h .most);
+      is = λ z o near. s z (subst (λ (y : ℕ). LowTotal p q y (w * 2 ^ i % 2 ^ 64) z) (sym (em ∙ ap (λ (y : ℕ). y * (v / 2 ^ 29) % 2 ^ 64) da ∙ ap (λ (y : ℕ). digits binary64 a * (y / 2 ^ 29) % 2 ^ 64) db)) (subst (λ (y : ℕ). LowTotal p q (digits binary64 a * (digits binary64 b / 2 ^ 29) % 2 ^ 64) (y * 2 ^ i % 2 ^ 64) z) (sym dc) (low-total p q (digits binary64 a * (digits binary64 b / 2 ^ 29)) (digits binary64 c * 2 ^ i) z o))) near;
     }
-  where
-    terms : u * (v / 2 ^ 29) % 2 ^ 64 ≡ digits binary64 a * (digits binary64 b / 2 ^ 29) % 2 ^ 64
-    terms = ap (λ (z : ℕ). z * (v / 2 ^ 29) % 2 ^ 64) eu ∙ ap (λ (z : ℕ). digits binary64 a * (z / 2 ^ 29) % 2 ^ 64) ev

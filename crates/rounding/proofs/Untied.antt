@@ -36,18 +36,25 @@ whole-pattern b l = go (order (field binary64 b) 0)
         differ e h = omega arith
     go (none e) = rw (eq-eqb (field binary64 b) 0 e) (omega arith)
 
+-- a pattern whose field is not 0
+pub normal-digits : (b : ℕ) → 0 < field binary64 b → digits binary64 b ≡ 2 ^ 52 + b % 2 ^ 52
+unfolding digits
+normal-digits b l = rw (ne-eqb (field binary64 b) 0 (differ (field binary64 b) l)) refl
+  where
+    differ : (x : ℕ) → 0 < x → x ≡ 0 → ⊥
+    differ x l e = omega arith
+
+pub place-field : (b : ℕ) → place binary64 b ≡ field binary64 b - 1
+unfolding place
+place-field b = refl
+
 -- a pattern in the f32's normal range
 module _ (b : ℕ) (least : 898 * 2 ^ 52 ≤ b) (most : b < 1150 * 2 ^ 52) where
-  some-field : field binary64 b ≡ 0 → ⊥
-  some-field e = omega arith
-
   pub digits-are : digits binary64 b ≡ 2 ^ 52 + b % 2 ^ 52
-  unfolding digits
-  digits-are = rw (ne-eqb (field binary64 b) 0 some-field) refl
+  digits-are = normal-digits b (omega arith)
 
   pub place-is : place binary64 b ≡ b / 2 ^ 52 - 1
-  unfolding place
-  place-is = omega arith
+  place-is = place-field b ∙ omega arith
 
   pub parts : Parts b (digits binary64 b) (place binary64 b)
   parts = let d = digits-are in let k = place-is in record { sum = omega arith; full = omega arith; short = omega arith; low = omega arith; high = omega arith }

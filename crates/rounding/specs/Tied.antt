@@ -22,13 +22,14 @@ pub record Beside (n : ℕ) : Type 0 where
   pub above : 2 ^ 28 ≤ n % 2 ^ 29 + 512
   pub under : n % 2 ^ 29 ≤ 2 ^ 28 + 512
 
--- b has no digits below its 24th, y is at least x and t above it, and neither is far
-pub record Reach (b x y t : ℕ) : Type 0 where
+-- b, whose field is e, has no digits below its 24th, and is neither subnormal nor too large; i and j places are not too many
+pub record Reach (b e i j : ℕ) : Type 0 where
   pub narrow : b % 2 ^ 29 ≡ 0
-  pub first : x ≤ y
-  pub first-near : y < x + 64
-  pub second : x < t
-  pub second-near : t ≤ x + 50
+  pub some : 1 ≤ e
+  pub few : e ≤ 1892
+  pub first : i < 64
+  pub second : 1 ≤ j
+  pub second-few : j ≤ 50
 
 -- the f32 pattern of the digits e, j of them more than an f64 has, at the place of n: rounded to an f64's digits, and then to an f32's
 abbrev pub twiceRounded : ℕ → ℕ → ℕ → ℕ

@@ -9,11 +9,9 @@ ghost use mathlib.Core.Bool.{cond, true};
 ghost use Prim.Native.Nat.{_+_, _*_, _/_, _%_, _^_, _<_, _≤_};
 ghost use lib.Ieee.{binary64, unlike};
 ghost use Rattle.rounding.specs.Apart.{Apart};
-ghost use Rattle.rounding.specs.Fields.{negative};
+ghost use Rattle.rounding.specs.Fields.{field, negative};
 ghost use Rattle.rounding.specs.Rounding.{fma, narrow};
 ghost use Rattle.rounding.specs.Tied.{Beside, Reach, Sided, Tied};
-use super::bits::digits_of;
-use super::bits::place_of;
 use super::fused::fma;
 use super::narrowing::narrow;
 
@@ -71,8 +69,7 @@ fn beside(size: u64, j: u64, p: bool, q: bool, m: u64, c: u64) -> u64
     ensures { λ r. ⌜ Sided size j p q m c r ⌝ }
 {
     let half = 1 << (j - 1);
-    let digits = 0x10_0000_0000_0000 + size % 0x10_0000_0000_0000;
-    let tie = (digits / 0x2000_0000 * 0x2000_0000 + 0x1000_0000) << j;
+    let tie = (full_digits(size) / 0x2000_0000 * 0x2000_0000 + 0x1000_0000) << j;
     let sum = joined(joined(half, m, p), c, q);
     let above = std::num::wrapping_sub_u64(sum, tie);
     let lower = size / 0x2000_0000 - 0x1_c000_0000;
@@ -98,20 +95,37 @@ fn is_beside(size: u64) -> bool
     (size + 0x1000_0200) % 0x2000_0000 <= 1024
 }
 
-// Whether b has at most 24 digits, and the places y and t are not below x, and not far above it.
-fn in_reach(b: u64, x: u64, y: u64, t: u64) -> bool
-    ensures { λ r. ⌜ (r ≡ true → Reach b x y t) ⌝ }
+// The exponent's field of a pattern, and its digits where the field is not 0.
+fn field_of(b: u64) -> u64
+    ensures { λ r. ⌜ r ≡ field binary64 b ⌝ }
 {
-    if y < x {
+    (b >> 52) % 2048
+}
+
+fn full_digits(b: u64) -> u64
+    ensures { λ r. ⌜ r ≡ 2 ^ 52 + b % 2 ^ 52 ⌝ }
+{
+    0x10_0000_0000_0000 + b % 0x10_0000_0000_0000
+}
+
+// Whether b, whose field is e, has at most 24 digits and is not too large, and the places i and j
+// are near.
+fn in_reach(b: u64, e: u64, i: u64, j: u64) -> bool
+    ensures { λ r. ⌜ (r ≡ true → Reach b e i j) ⌝ }
+{
+    if e == 0 {
         return false;
     }
-    if t <= x {
+    if e > 1892 {
         return false;
     }
-    if y - x >= 64 {
+    if i >= 64 {
         return false;
     }
-    if t - x > 50 {
+    if j == 0 {
+        return false;
+    }
+    if j > 50 {
         return false;
     }
     b % 0x2000_0000 == 0
@@ -119,17 +133,19 @@ fn in_reach(b: u64, x: u64, y: u64, t: u64) -> bool
 
 // The f32 pattern of a * b + c without its sign, from the patterns of the three and that of the sum
 // by the operators, `size`; and 0 where no tie is close to it, b has more than 24 digits, or the
-// terms lie too far from one another.
+// terms lie too far from one another. The product's last digit is at the place x; c's is i places
+// above it, and that of `size` j.
 fn near_tie(a: u64, b: u64, c: u64, size: u64, p: bool, q: bool) -> u64
     ensures { λ r. ⌜ (r ≡ 0) ⊎ Tied a b c size p q r ⌝ }
 {
     if is_beside(size) {
-        let x = place_of(a) + place_of(b) + 29;
-        let y = place_of(c) + 1074;
-        let t = size / 0x10_0000_0000_0000 + 1073;
-        if in_reach(b, x, y, t) {
-            let m = low_product(digits_of(a), digits_of(b) / 0x2000_0000);
-            return beside(size, t - x, p, q, m, digits_of(c) << (y - x));
+        let e = field_of(b);
+        let x = field_of(a) + e + 27;
+        let i = std::num::wrapping_sub_u64(field_of(c) + 1073, x);
+        let j = std::num::wrapping_sub_u64(size / 0x10_0000_0000_0000 + 1073, x);
+        if in_reach(b, e, i, j) {
+            let m = low_product(full_digits(a), full_digits(b) / 0x2000_0000);
+            return beside(size, j, p, q, m, full_digits(c) << i);
         }
     }
     0

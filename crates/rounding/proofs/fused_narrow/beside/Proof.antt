@@ -1,4 +1,6 @@
 -- `rounding::fused_narrow::beside` meets its contract. Assumes nothing.
+use mathlib.Core.Path.{_≡_, subst}
+use Prim.Native.Nat.{ℕ, _+_, _*_, _/_, _%_, _^_}
 use native.Mathlib.Omega.{arith}
 use borrow.Author.Needs.{needs}
 use Rattle.rounding.proofs.Side.{half-is, sided-on, sided-above, sided-below}
@@ -11,8 +13,8 @@ sub-half c = search needs
 shl-half : tie.Need-shl-half
 shl-half c = search needs
 
-add-digits : tie.Need-add-digits
-add-digits c = search needs
+full-digits-requires : tie.Need-full-digits-requires
+full-digits-requires c κs = search needs
 
 mul-tie : tie.Need-mul-tie
 mul-tie c = search needs
@@ -36,7 +38,7 @@ sub-lower : tie.Need-sub-lower
 sub-lower c = search needs
 
 mul-if1 : tie.Need-mul-if1
-mul-if1 c = let s = c .before .before .before in let h = half-is (s .args .j) (s .pre .1) (s .pre .2) in let a = h .0 in let b = h .1 in record { fits = omega arith }
+mul-if1 c = let s = c .before .before .before .before in let h = half-is (s .args .j) (s .pre .1) (s .pre .2) in let a = h .0 in let b = h .1 in record { fits = omega arith }
 
 add-result : tie.Need-add-result
 add-result c = search needs
@@ -47,26 +49,32 @@ add-result-2 c = search needs
 returns : tie.Need-returns
 returns c =
     let w = c .before in
-    let s = w .before .before .before in
+    let f = w .before .before .before in
+    let s = f .before in
     let a = s .args in
     sided-on (a .size) (a .j) (a .p) (a .q) (a .m) (a .c) (w .before .before .joined .result) (w .before .joined2 .result) (w .wrapping-sub-u64 .result) (s .pre .0) (s .pre .1) (s .pre .2) (search needs)
-    (w .before .before .joined .ensures) (w .before .joined2 .ensures) (w .wrapping-sub-u64 .ensures) (c .if1 .taken)
+    (w .before .before .joined .ensures) (w .before .joined2 .ensures)
+    (subst (λ (d : ℕ). (w .wrapping-sub-u64 .result + (d / 2 ^ 29 * 2 ^ 29 + 2 ^ 28) * 2 ^ a .j % 2 ^ 64) % 2 ^ 64 ≡ w .before .joined2 .result) (f .full-digits .ensures) (w .wrapping-sub-u64 .ensures)) (c .if1 .taken)
 
 returns-2 : tie.Need-returns-2
 returns-2 c =
     let w = c .before .before in
-    let s = w .before .before .before in
+    let f = w .before .before .before in
+    let s = f .before in
     let a = s .args in
     sided-above (a .size) (a .j) (a .p) (a .q) (a .m) (a .c) (w .before .before .joined .result) (w .before .joined2 .result) (w .wrapping-sub-u64 .result) (s .pre .0) (s .pre .1) (s .pre .2) (search needs)
-    (w .before .before .joined .ensures) (w .before .joined2 .ensures) (w .wrapping-sub-u64 .ensures) (c .before .if1 .left) (c .if2 .taken)
+    (w .before .before .joined .ensures) (w .before .joined2 .ensures)
+    (subst (λ (d : ℕ). (w .wrapping-sub-u64 .result + (d / 2 ^ 29 * 2 ^ 29 + 2 ^ 28) * 2 ^ a .j % 2 ^ 64) % 2 ^ 64 ≡ w .before .joined2 .result) (f .full-digits .ensures) (w .wrapping-sub-u64 .ensures)) (c .before .if1 .left) (c .if2 .taken)
 
 returns-3 : tie.Need-returns-3
 returns-3 c =
     let w = c .before .before in
-    let s = w .before .before .before in
+    let f = w .before .before .before in
+    let s = f .before in
     let a = s .args in
     sided-below (a .size) (a .j) (a .p) (a .q) (a .m) (a .c) (w .before .before .joined .result) (w .before .joined2 .result) (w .wrapping-sub-u64 .result) (s .pre .0) (s .pre .1) (s .pre .2) (search needs)
-    (w .before .before .joined .ensures) (w .before .joined2 .ensures) (w .wrapping-sub-u64 .ensures) (c .if2 .left)
+    (w .before .before .joined .ensures) (w .before .joined2 .ensures)
+    (subst (λ (d : ℕ). (w .wrapping-sub-u64 .result + (d / 2 ^ 29 * 2 ^ 29 + 2 ^ 28) * 2 ^ a .j % 2 ^ 64) % 2 ^ 64 ≡ w .before .joined2 .result) (f .full-digits .ensures) (w .wrapping-sub-u64 .ensures)) (c .if2 .left)
 
 pub beside-spec : {M : Type 1} → statement M
 beside-spec =
@@ -74,7 +82,7 @@ beside-spec =
     (tie.spec
     sub-half
     shl-half
-    add-digits
+    full-digits-requires
     mul-tie
     add-tie
     shl-tie
