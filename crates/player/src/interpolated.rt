@@ -6,12 +6,13 @@ ghost use lib.ListN.{length, getD};
 ghost use lib.Ieee.{binary64, eq, toUnsigned};
 ghost use Rattle.rounding.specs.Rounding.{floor, widen};
 ghost use Rattle.lists.specs.Table.{table};
-ghost use Rattle.player.specs.SubSample.{headAt, loopFrame, extrapolated, following, between, sampleOf};
+ghost use Rattle.player.specs.SubSample.{headAt, loopFrame, extrapolated, following, sampleOf};
 ghost use Rattle.player.specs.Infos.{infosOf, sampleBy};
 ghost use Rattle.player.specs.Block.{written};
 use super::Filled;
 use super::FrameNumber;
 use super::Infos;
+use super::Neighbours;
 use super::PlaybackInfo;
 use super::Playhead;
 use super::Settings;
@@ -115,22 +116,6 @@ fn following(s: Settings, channel: &[u32], frame: usize, k: f64) -> f64
     extrapolated(channel, frame, k)
 }
 
-// The bits k of the way from one sample to the next.
-fn between(k: f64, prev_sample: f64, next_sample: f64) -> u32
-    ensures { λ r. ⌜ r ≡ between k «prev_sample» «next_sample» ⌝ }
-{
-    fma_narrow(1.0 - k, prev_sample, k * next_sample)
-}
-
-// The bits k of the way from a frame on, wherever the frame lies.
-fn sample_from(s: Settings, channel: &[u32], frame: usize, k: f64) -> u32
-    ensures { λ r. ⌜ r ≡ between k (widen (getD (now (channel .entry)) frame 0)) (following s (now (channel .entry)) frame k) ⌝ }
-{
-    let prev_sample = frame_at(channel, frame);
-    let next_sample = following(s, channel, frame, k);
-    between(k, prev_sample, next_sample)
-}
-
 // The last of n frames, or of a channel of m if that is shorter.
 fn last_of(n: usize, m: usize) -> usize
     ensures { λ r. ⌜ r ≡ min n m - 1 ⌝ }
@@ -138,19 +123,30 @@ fn last_of(n: usize, m: usize) -> usize
     one_below(smaller(n, m))
 }
 
-// A sample's bits. Before the last frame both frames are there.
+// The sample at a frame, and the one after it. Before the last frame both are frames of the channel.
+fn neighbours(s: Settings, channel: &[u32], frame: usize, k: f64) -> Neighbours
+    ensures { λ r. ⌜ (r .«prev_sample» ≡ widen (getD (now (channel .entry)) frame 0)) × (r .«next_sample» ≡ following s (now (channel .entry)) frame k) ⌝ }
+{
+    if frame < last_of(s.buffer_length, channel.len()) {
+        return Neighbours {
+            prev_sample: widen(channel[frame]),
+            next_sample: widen(channel[frame + 1]),
+        };
+    }
+    Neighbours {
+        prev_sample: frame_at(channel, frame),
+        next_sample: following(s, channel, frame, k),
+    }
+}
+
+// A sample's bits.
 fn sample_of(s: Settings, channel: &[u32], info: PlaybackInfo) -> u32
     ensures { λ r. ⌜ r ≡ sampleOf s (now (channel .entry)) info ⌝ }
 {
     if info.present {
-        let frame = info.prev_frame_index.0;
         let k = info.k;
-        if frame < last_of(s.buffer_length, channel.len()) {
-            let prev_sample = widen(channel[frame]);
-            let next_sample = widen(channel[frame + 1]);
-            return between(k, prev_sample, next_sample);
-        }
-        return sample_from(s, channel, frame, k);
+        let at = neighbours(s, channel, info.prev_frame_index.0, k);
+        return fma_narrow(1.0 - k, at.prev_sample, k * at.next_sample);
     }
     0
 }

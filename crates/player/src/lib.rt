@@ -127,7 +127,13 @@ pub struct PlaybackInfo {
     pub k: f64,
 }
 
-// The same for each sample of a block.
+// The samples between which a sample lies.
+pub struct Neighbours {
+    pub prev_sample: f64,
+    pub next_sample: f64,
+}
+
+// A `PlaybackInfo` for each sample of a block.
 pub struct Infos {
     pub frame: [usize; 128],
     pub fraction: [f64; 128],
