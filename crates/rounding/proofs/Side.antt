@@ -1,7 +1,7 @@
 -- On which side of a tie a sum lies, from its last 64 digits: the laws of `beside` and of its parts. Nothing here is about floats. Assumes nothing.
 use mathlib.Core.Path.{_≡_, refl, sym, ap, _∙_, subst}
 use mathlib.Core.Bool.{Bool, true, false, cond, false≢true}
-use Prim.Native.Nat.{ℕ, zero, suc, _+_, _-_, _*_, _/_, _%_, _^_, _≤_, _<_, compare, Ordering, Ordering·eq}
+use Prim.Native.Nat.{ℕ, zero, suc, _+_, _-_, _*_, _/_, _%_, _^_, _≤_, _<_, compare, Ordering·eq}
 use native.Mathlib.Nat.{mul-add-div-right, mul-add-mod-self-right, div-eq-of-lt, mod-eq-of-lt, mul-le-mul-right, lt-of-mul-lt-mul-right, mod-add-mod, div-add-mod', pow-succ'}
 use native.Mathlib.Omega.{arith}
 use lib.Dec.{leb}

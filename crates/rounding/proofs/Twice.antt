@@ -1,4 +1,4 @@
--- a * b + c rounded after the product and after the sum, and rounded once, narrow to the same f32, where the product is not large beside the sum, and the former sum is apart from the ties (`Apart`). Assumes nothing.
+-- a * b + c rounded once is near a * b + c rounded after the product and after the sum, where the product is not large beside the sum (`fused-once`). So both narrow to the same f32, where the latter is apart from the ties (`Apart`). Assumes nothing.
 use mathlib.Core.Path.{_≡_, refl, sym, ap, _∙_, subst}
 use mathlib.Core.Logic.{_⊎_, inl, inr}
 use mathlib.Core.Bool.{Bool, true, false, not, Bool·beq, cond, false≢true}
@@ -7,10 +7,10 @@ use native.Mathlib.Nat.{mul-lt-mul-of-pos-right, mod-lt, le-of-lt, le-trans, mul
 use native.Mathlib.Omega.{arith}
 use lib.Dec.{T, eqb, lit≤}
 use lib.Pow.{pow-pos, pow-mono}
-use lib.Ieee.{Float, nan, inf, fin, Format, low, binary32, binary64, up, down, unlike, round, sum, neg, add, mul, fits, isNan, toBits}
+use lib.Ieee.{Float, nan, inf, fin, Format, low, binary32, binary64, unlike, round, sum, neg, add, mul, fits, isNan, toBits}
 use lib.Ieee.Bits.{ofBits-toBits}
 use lib.Ieee.Exact.{HasValue}
-use lib.Ieee.Fits.{round-fits, add-fits, mul-fits, down-pos}
+use lib.Ieee.Fits.{round-fits, add-fits, mul-fits}
 use lib.Ieee.Scale.{finite, grid, overflow, round-val, round-under}
 use Rattle.rounding.specs.Apart.{Apart}
 use Rattle.rounding.specs.Fields.{field, digits, place, negative}

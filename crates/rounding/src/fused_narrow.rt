@@ -2,7 +2,8 @@
 //
 // Where the product is at most 32 times the sum y by the operators, which is rounded twice, y is
 // close to the sum rounded once: their patterns are at most 512 apart. So both narrow to the same
-// f32, unless a tie of two f32 values lies as close to y.
+// f32, unless a tie of two f32 values lies as close to y. Where one does, and b is a widened f32,
+// the last 64 digits of the exact sum tell how far from the tie it is.
 ghost use mathlib.Core.Path.{_≡_};
 ghost use mathlib.Core.Logic.{_⊎_};
 ghost use mathlib.Core.Bool.{cond, true};

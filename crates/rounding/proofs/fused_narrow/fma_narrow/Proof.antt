@@ -1,4 +1,4 @@
--- `rounding::fused_narrow::fma_narrow` meets its contract: `narrow-alike` of proofs/Twice.antt where `untied` tells, and `narrow-tied` of proofs/Sided.antt where `near_tie` does. Assumes nothing.
+-- `rounding::fused_narrow::fma_narrow` meets its contract: `narrow-alike` of proofs/Twice.antt where `untied` tells, and `narrow-tied` of proofs/NearTie.antt where `near_tie` does. Assumes nothing.
 use mathlib.Core.Path.{_≡_, sym, ap, _∙_, subst}
 use mathlib.Core.Logic.{_⊎_, inl, inr}
 use mathlib.Core.Bool.{Bool, true, not, cond, false≢true}
@@ -15,7 +15,7 @@ use Rattle.rounding.specs.Rounding.{convert, narrow, fma}
 use Rattle.rounding.specs.Tied.{Tied}
 use Rattle.rounding.proofs.Read.{convert-fits}
 use Rattle.rounding.proofs.SignBit.{sign-bit}
-use Rattle.rounding.proofs.Sided.{narrow-tied}
+use Rattle.rounding.proofs.NearTie.{narrow-tied}
 use Rattle.rounding.proofs.Twice.{narrow-alike}
 use Rattle.rounding.proofs.fused_narrow.fma_narrow.Statement.{statement}
 use Rattle.rounding.proofs.fused_narrow.fma_narrow.Tie as tie

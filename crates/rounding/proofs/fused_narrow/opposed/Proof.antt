@@ -1,5 +1,5 @@
 -- `rounding::fused_narrow::opposed` meets its contract. Assumes nothing.
-use mathlib.Core.Path.{_≡_, refl, sym, ap, _∙_}
+use mathlib.Core.Path.{_≡_, sym, ap}
 use mathlib.Core.Bool.{Bool, true, false, not, Bool·beq}
 use Prim.Native.Nat.{ℕ, _/_, _^_, _≤_, _<_}
 use native.Mathlib.Omega.{arith}

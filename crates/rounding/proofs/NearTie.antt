@@ -1,9 +1,9 @@
 -- The fused sum close to a tie, narrowed (`Tied`): in units of a common place it is a whole number, whose digits are rounded to those of an f64, and then of an f32. Assumes nothing.
-use mathlib.Core.Path.{_≡_, refl, sym, ap, _∙_, subst}
+use mathlib.Core.Path.{_≡_, sym, ap, _∙_, subst}
 use mathlib.Core.Logic.{inl, inr}
 use mathlib.Core.Bool.{Bool, true, false, not, cond}
 use Prim.Native.Nat.{ℕ, _+_, _-_, _*_, _/_, _%_, _^_, _≤_, _<_, min}
-use native.Mathlib.Nat.{add-mul, eq-of-mul-eq-mul-right, mul-pos, mul-le-mul-right, le-of-mul-le-mul-right, lt-of-mul-lt-mul-right, mul-lt-mul-of-pos-right, zero-add}
+use native.Mathlib.Nat.{add-mul, eq-of-mul-eq-mul-right, mul-pos, mul-le-mul-right, le-of-mul-le-mul-right, lt-of-mul-lt-mul-right}
 use native.Mathlib.Omega.{arith}
 use lib.Dec.{T}
 use lib.Pow.{pow-add, pow-pos}
@@ -20,7 +20,7 @@ use Rattle.rounding.proofs.Read.{digits-lt, digits-full}
 use Rattle.rounding.proofs.Single.{pat, high}
 use Rattle.rounding.proofs.Sum.{mul-sub-r}
 use Rattle.rounding.proofs.Twice.{Once, once-under, narrow-round, unitsOf, fused-once}
-use Rattle.rounding.proofs.Untied.{digits-are, place-is, Parts, parts, whole-pattern}
+use Rattle.rounding.proofs.Untied.{digits-are, Parts, parts, whole-pattern}
 
 -- ---- a common unit
 -- U times m and c add up to X: so X is U times their sum
