@@ -1,4 +1,4 @@
--- On which side of a tie a sum lies, from its last 64 digits: the laws of `beside` and of its parts. Nothing here is about floats. Assumes nothing.
+-- On which side of a tie a sum lies, from its last 64 digits: the laws of `beside` and `near_tie` and of their parts, over whole numbers and patterns. Assumes nothing.
 use mathlib.Core.Path.{_≡_, refl, sym, ap, _∙_, subst}
 use mathlib.Core.Bool.{Bool, true, false, cond, false≢true}
 use Prim.Native.Nat.{ℕ, zero, suc, _+_, _-_, _*_, _/_, _%_, _^_, _≤_, _<_, compare, Ordering·eq}
