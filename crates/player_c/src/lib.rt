@@ -1,4 +1,4 @@
-// The player's blocks for C, to be measured beside the Rust's (tools/bench_player).
+// The player's blocks for C, to be measured beside the Rust's (tools/bench).
 use player::ControlMessage;
 use player::Handled;
 use player::Player;
