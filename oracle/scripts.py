@@ -60,6 +60,8 @@ def make_pools(rng, size):
         "flat": text(x32(float(1 + i // 40 % 5)) for i in range(size)),
         # x, -x: half way between, the rounding of each step shows
         "opposite": text(x32(s * x) for x in (rng.uniform(-1, 1) for _ in range(size // 2)) for s in (1, -1)),
+        # whole numbers of 23 and 24 digits, one sign for 64 of them: half way between, ties of two f32 values
+        "ties": text(x32((1 - 2 * (i // 64 % 2)) * float(rng.randrange(2**22, 2**24))) for i in range(size)),
     }
 
 
@@ -73,7 +75,7 @@ class Generator:
     # ------------------------------------------------------------ numbers
 
     def words(self, count):
-        kind = self.rng.choice(["bits", "ordinary", "ordinary", "special", "ramp", "ramp", "flat", "opposite"])
+        kind = self.rng.choice(["bits", "ordinary", "ordinary", "special", "ramp", "ramp", "flat", "opposite", "ties"])
         pool = self.pools[kind]
         first = 0 if kind == "ramp" else self.rng.randrange(self.POOL - count + 1) if count < self.POOL else 0
         return words_text(pool[9 * first : 9 * (first + count)])
