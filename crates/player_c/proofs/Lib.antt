@@ -1,0 +1,3 @@
+-- The laws that the proofs of `player_c` share.
+mod Numbers
+mod Turns

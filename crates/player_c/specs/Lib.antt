@@ -1,0 +1,2 @@
+-- What the measured run of blocks leaves.
+pub mod Playing
