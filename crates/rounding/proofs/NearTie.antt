@@ -136,20 +136,8 @@ module _ (n : ℕ) (h : Beside n) (j e X E : ℕ) (w : Within (128 * 2 ^ j) e (d
   rounded-twice = ap (λ (i : ℕ). pat false i (place binary64 Z)) (its-parts .1) ∙ ap (pat false q) (its-parts .0) ∙ single k q (g .low) (g .high) from to
 
 -- ---- so the fused sum is narrowed
-module _ (a b c l y r : ℕ) (x : Float) (h : Tied a b c l y r)
-    (w : Once (unitsOf a * unitsOf b) (2 ^ 1074 * 2 ^ 1074) (unitsOf c) (digits binary64 (y % 2 ^ 63)) (place binary64 (y % 2 ^ 63)) x (negative binary64 l) (negative binary64 c) (negative binary64 y)) where
-  abbrev n : ℕ
-  n = y % 2 ^ 63
-
-  abbrev S : Bool
-  S = negative binary64 l
-
-  abbrev t : Bool
-  t = negative binary64 c
-
-  abbrev s : Bool
-  s = negative binary64 y
-
+module _ (a b c n : ℕ) (x : Float) (S t s : Bool) (r : ℕ) (h : Tied a b c n (unlike S s) (unlike t s) r)
+    (w : Once (unitsOf a * unitsOf b) (2 ^ 1074 * 2 ^ 1074) (unitsOf c) (digits binary64 n) (place binary64 n) x S t s) where
   pub narrow-side : cond s (2 ^ 31) 0 + r ≡ narrow x
   unfolding unitsOf
   narrow-side =
@@ -186,10 +174,11 @@ module _ (a b c l y r : ℕ) (x : Float) (h : Tied a b c l y r)
 
 pub narrow-tied : (a b c : Float) → T (fits binary64 a) → T (fits binary64 b) → T (fits binary64 c) → (r : ℕ)
     → let p = mul binary64 a b in let y = add binary64 p c in T (not (isNan p)) → T (not (isNan y))
-    → toBits binary64 p % 2 ^ 63 ≤ toBits binary64 y % 2 ^ 63 + 5 * 2 ^ 52 → Tied (toBits binary64 a) (toBits binary64 b) (toBits binary64 c) (toBits binary64 p) (toBits binary64 y) r
+    → toBits binary64 p % 2 ^ 63 ≤ toBits binary64 y % 2 ^ 63 + 5 * 2 ^ 52
+    → Tied (toBits binary64 a) (toBits binary64 b) (toBits binary64 c) (toBits binary64 y % 2 ^ 63) (unlike (negative binary64 (toBits binary64 p)) (negative binary64 (toBits binary64 y))) (unlike (negative binary64 (toBits binary64 c)) (negative binary64 (toBits binary64 y))) r
     → cond (negative binary64 (toBits binary64 y)) (2 ^ 31) 0 + r ≡ narrow (fma binary64 a b c)
 narrow-tied a b c ta tb tc r np ny l h =
     let p : Float = mul binary64 a b in
     let y : Float = add binary64 p c in
-    narrow-side (toBits binary64 a) (toBits binary64 b) (toBits binary64 c) (toBits binary64 p) (toBits binary64 y) r (fma binary64 a b c) h
+    narrow-side (toBits binary64 a) (toBits binary64 b) (toBits binary64 c) (toBits binary64 y % 2 ^ 63) (fma binary64 a b c) (negative binary64 (toBits binary64 p)) (negative binary64 (toBits binary64 c)) (negative binary64 (toBits binary64 y)) r h
     (fused-once a b c ta tb tc np ny l (parts (toBits binary64 y % 2 ^ 63) (h .beside .least) (h .beside .most)))

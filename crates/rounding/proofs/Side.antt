@@ -4,12 +4,14 @@ use mathlib.Core.Bool.{Bool, true, false, cond, false≢true}
 use Prim.Native.Nat.{ℕ, zero, suc, _+_, _-_, _*_, _/_, _%_, _^_, _≤_, _<_, compare, Ordering·eq}
 use native.Mathlib.Nat.{mul-add-div-right, mul-add-mod-self-right, div-eq-of-lt, mod-eq-of-lt, mul-le-mul-right, lt-of-mul-lt-mul-right, mod-add-mod, div-add-mod', pow-succ'}
 use native.Mathlib.Omega.{arith}
+use lib.Dec.{leb}
 use lib.Pow.{pow-mono, pow-pos}
 use lib.Ieee.{binary64, nearest}
 use lib.Ieee.Nearest.{closest}
+use borrow.Author.Tests.{leb-true}
 use Rattle.rounding.specs.Fields.{field, digits, place}
 use Rattle.rounding.specs.Laws.{Within}
-use Rattle.rounding.specs.Tied.{Beside, Reach, Sided, Tied, Total, LowTotal, opposed, twiceRounded}
+use Rattle.rounding.specs.Tied.{Beside, Reach, Sided, Tied, Total, LowTotal, twiceRounded}
 use Rattle.rounding.proofs.Bounds.{closest-is}
 use Rattle.rounding.proofs.Closest.{compare-is, closest-near}
 use Rattle.rounding.proofs.Read.{field-le}
@@ -101,6 +103,9 @@ pub halves : (a b r : ℕ) → r ≡ (a / 2 ^ 32 * b * 2 ^ 32 % 2 ^ 64 + a % 2 ^
 halves a b r e = e ∙ mod-add-mod (a / 2 ^ 32 * b * 2 ^ 32) (2 ^ 64) (a % 2 ^ 32 * b) ∙ ap (λ (x : ℕ). x % 2 ^ 64) (let d = ap (λ (x : ℕ). x * b) (div-add-mod' a (2 ^ 32)) in omega arith)
 
 -- ---- the tie beside a pattern
+pub beside-test : (n : ℕ) → 898 * 2 ^ 52 ≤ n → n < 1150 * 2 ^ 52 → leb ((n + 0x1000_0200) % 0x2000_0000) 1024 ≡ true → Beside n
+beside-test n lo hi e = let l = leb-true ((n + 0x1000_0200) % 0x2000_0000) 1024 e in record { least = lo; most = hi; above = omega arith; under = omega arith }
+
 -- an f32's digits below the tie, and the tie
 abbrev lowDigits : ℕ → ℕ
 lowDigits n = (2 ^ 52 + n % 2 ^ 52) / 2 ^ 29
@@ -198,44 +203,28 @@ low-total true false m c e t = omega arith
 low-total false true m c e t = omega arith
 low-total false false m c e t = omega arith
 
--- the places, by the fields
-places : (a b c f e g x i : ℕ) → a ≡ f - 1 → b ≡ e - 1 → c ≡ g - 1 → 0 < f → 0 < e → 0 < g → f ≤ 2047 → e ≤ 2047 → i < 64 → x ≡ f + e + 27 → (i + x) % 2 ^ 64 ≡ g + 1073 → a + b + 29 + i ≡ c + 1074
-places a b c f e g x i ea eb ec nf ne ng lf le li ex ei = omega arith
-
-pub tied : (a b c l y : ℕ) (p q : Bool) (f e g x i j u v w m r : ℕ) → let n = y % 2 ^ 63 in Beside n → Reach b e i j → p ≡ opposed l y → q ≡ opposed c y → f ≡ field binary64 a → e ≡ field binary64 b → g ≡ field binary64 c
-    → x ≡ f + e + 27 → (i + x) % 2 ^ 64 ≡ g + 1073 → (j + x) % 2 ^ 64 ≡ n / 2 ^ 52 + 1073 → u ≡ 2 ^ 52 + a % 2 ^ 52 → v ≡ 2 ^ 52 + b % 2 ^ 52 → w ≡ 2 ^ 52 + c % 2 ^ 52 → m ≡ u * (v / 2 ^ 29) % 2 ^ 64
-    → Sided n j p q m (w * 2 ^ i % 2 ^ 64) r → Tied a b c l y r
-tied a b c l y p q f e g x i j u v w m r h k ep eq ef ee eg ex ei ej eu ev ew em s =
-    let n : ℕ = y % 2 ^ 63 in
-    let t = place-is (y % 2 ^ 63) (h .least) (h .most) in
+pub tied : (a b c n : ℕ) (p q : Bool) (f e g x i j u v w m r : ℕ) → Beside n → Reach b e i j → f ≡ field binary64 a → e ≡ field binary64 b → g ≡ field binary64 c → x ≡ f + e + 27
+    → (i + x) % 2 ^ 64 ≡ g + 1073 → (j + x) % 2 ^ 64 ≡ n / 2 ^ 52 + 1073 → u ≡ 2 ^ 52 + a % 2 ^ 52 → v ≡ 2 ^ 52 + b % 2 ^ 52 → w ≡ 2 ^ 52 + c % 2 ^ 52 → m ≡ u * (v / 2 ^ 29) % 2 ^ 64
+    → Sided n j p q m (w * 2 ^ i % 2 ^ 64) r → Tied a b c n p q r
+tied a b c n p q f e g x i j u v w m r h k ef ee eg ex ei ej eu ev ew em s =
+    let t = place-is n (h .least) (h .most) in
     let fa = field-le binary64 a in
-    let fb = field-le binary64 b in
     let fc = field-le binary64 c in
     let la = place-field a in
     let lb = place-field b in
     let lc = place-field c in
     let nb : 0 < field binary64 b = omega (arith, k .some) in
-    let na : 0 < field binary64 a = omega (arith, ej, k .few, k .second-few, h .least, h .most) in
+    let na : 0 < field binary64 a = omega (arith, k .few, k .second-few, h .least, h .most) in
     let nc : 0 < field binary64 c = omega (arith, k .first, k .second-few, h .least, h .most) in
-    let nn : 0 < y % 2 ^ 63 / 2 ^ 52 = omega (arith, h .least) in
-    let ex' : x ≡ field binary64 a + field binary64 b + 27 = ex ∙ ap (λ (z : ℕ). z + e + 27) ef ∙ ap (λ (z : ℕ). field binary64 a + z + 27) ee in
     let da : u ≡ digits binary64 a = eu ∙ sym (normal-digits a na) in
     let db : v ≡ digits binary64 b = ev ∙ sym (normal-digits b nb) in
     let dc : w ≡ digits binary64 c = ew ∙ sym (normal-digits c nc) in
-    let A : ℕ = digits binary64 a * (digits binary64 b / 2 ^ 29) in
-    let C : ℕ = digits binary64 c * 2 ^ i in
-    let em' : m ≡ A % 2 ^ 64 = em ∙ ap (λ (z : ℕ). z * (v / 2 ^ 29) % 2 ^ 64) da ∙ ap (λ (z : ℕ). digits binary64 a * (z / 2 ^ 29) % 2 ^ 64) db in
-    let ec : w * 2 ^ i % 2 ^ 64 ≡ C % 2 ^ 64 = ap (λ (z : ℕ). z * 2 ^ i % 2 ^ 64) dc in
-    let s' : Sided n j (opposed l y) (opposed c y) (A % 2 ^ 64) (C % 2 ^ 64) r = subst (λ (z : Bool). Sided n j z (opposed c y) (A % 2 ^ 64) (C % 2 ^ 64) r) ep (subst (λ (z : Bool). Sided n j p z (A % 2 ^ 64) (C % 2 ^ 64) r) eq (subst (λ (z : ℕ). Sided n j p q z (C % 2 ^ 64) r) em' (subst (λ (z : ℕ). Sided n j p q m z r) ec s))) in
     record {
       beside = h;
       i = i;
       j = j;
       narrow = omega (arith, k .narrow);
-      first = places (place binary64 a) (place binary64 b) (place binary64 c) (field binary64 a) (field binary64 b) (field binary64 c) x i la lb lc na nb nc fa fb (k .first) ex' (ei ∙ ap (λ (z : ℕ). z + 1073) eg);
-      second = places (place binary64 a) (place binary64 b) (place binary64 n) (field binary64 a) (field binary64 b) (n / 2 ^ 52) x j la lb t na nb nn fa fb (few j (k .second-few)) ex' ej;
-      is = λ z o near. s' z (low-total (opposed l y) (opposed c y) A C z o) near;
+      first = omega (arith, k .first);
+      second = omega (arith, k .second-few, h .least, h .most);
+      is = λ z o near. s z (subst (λ (y : ℕ). LowTotal p q y (w * 2 ^ i % 2 ^ 64) z) (sym (em ∙ ap (λ (y : ℕ). y * (v / 2 ^ 29) % 2 ^ 64) da ∙ ap (λ (y : ℕ). digits binary64 a * (y / 2 ^ 29) % 2 ^ 64) db)) (subst (λ (y : ℕ). LowTotal p q (digits binary64 a * (digits binary64 b / 2 ^ 29) % 2 ^ 64) (y * 2 ^ i % 2 ^ 64) z) (sym dc) (low-total p q (digits binary64 a * (digits binary64 b / 2 ^ 29)) (digits binary64 c * 2 ^ i) z o))) near;
     }
-  where
-    few : (j : ℕ) → j ≤ 50 → j < 64
-    few j h = omega arith

@@ -2,9 +2,9 @@
 use mathlib.Core.Path.{_≡_}
 use mathlib.Core.Bool.{Bool, cond}
 use Prim.Native.Nat.{ℕ, _+_, _-_, _*_, _/_, _%_, _^_, _≤_, _<_}
-use lib.Ieee.{binary64, unlike}
+use lib.Ieee.{binary64}
 use lib.Ieee.Nearest.{closest}
-use Rattle.rounding.specs.Fields.{digits, place, negative}
+use Rattle.rounding.specs.Fields.{digits, place}
 use Rattle.rounding.specs.Laws.{Within}
 
 -- e is the sum of m and c; m is taken away instead where p, and c where q
@@ -39,17 +39,13 @@ twiceRounded n j e = (place binary64 n - 896) * 2 ^ 23 + closest (closest e (2 ^
 abbrev pub Sided : ℕ → ℕ → Bool → Bool → ℕ → ℕ → ℕ → Type 0
 Sided n j p q m c r = (e : ℕ) → LowTotal p q m c e → Within (128 * 2 ^ j) e (digits binary64 n * 2 ^ j) → r ≡ twiceRounded n j e
 
--- whether the signs of two patterns differ
-abbrev pub opposed : ℕ → ℕ → Bool
-opposed a b = unlike (negative binary64 a) (negative binary64 b)
-
--- a, b and c are patterns, and p and y are those of a * b and a * b + c by the operators. The unit is the last digit of the product, where b has no digits below its 24th: its place is that of a and of b and 29 more.
--- c's last digit is i places above it, and y's j. r is the f32 pattern of the sum without its sign, rounded to an f64 and then to an f32: a term whose sign is not y's is taken away
-pub record Tied (a b c p y r : ℕ) : Type 0 where
-  pub beside : Beside (y % 2 ^ 63)
+-- a, b and c are patterns; n is that of a * b + c by the operators, without its sign; the product is taken away where p, and c where q. The unit is the last digit of the product, where b has no digits below its 24th: its place is that of a and of b and 29 more.
+-- c's last digit is i places above it, and n's j. r is the f32 pattern of the sum, rounded to an f64 and then to an f32
+pub record Tied (a b c n : ℕ) (p q : Bool) (r : ℕ) : Type 0 where
+  pub beside : Beside n
   pub i : ℕ
   pub j : ℕ
   pub narrow : digits binary64 b % 2 ^ 29 ≡ 0
   pub first : place binary64 a + place binary64 b + 29 + i ≡ place binary64 c + 1074
-  pub second : place binary64 a + place binary64 b + 29 + j ≡ place binary64 (y % 2 ^ 63) + 1074
-  pub is : (e : ℕ) → Total (opposed p y) (opposed c y) (digits binary64 a * (digits binary64 b / 2 ^ 29)) (digits binary64 c * 2 ^ i) e → Within (128 * 2 ^ j) e (digits binary64 (y % 2 ^ 63) * 2 ^ j) → r ≡ twiceRounded (y % 2 ^ 63) j e
+  pub second : place binary64 a + place binary64 b + 29 + j ≡ place binary64 n + 1074
+  pub is : (e : ℕ) → Total p q (digits binary64 a * (digits binary64 b / 2 ^ 29)) (digits binary64 c * 2 ^ i) e → Within (128 * 2 ^ j) e (digits binary64 n * 2 ^ j) → r ≡ twiceRounded n j e

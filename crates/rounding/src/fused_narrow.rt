@@ -8,19 +8,18 @@ ghost use mathlib.Core.Path.{_≡_};
 ghost use mathlib.Core.Logic.{_⊎_};
 ghost use mathlib.Core.Bool.{cond, true};
 ghost use Prim.Native.Nat.{_+_, _*_, _/_, _%_, _^_, _<_, _≤_};
-ghost use lib.Ieee.{binary64};
+ghost use lib.Ieee.{binary64, unlike};
 ghost use Rattle.rounding.specs.Apart.{Apart};
 ghost use Rattle.rounding.specs.Fields.{field, negative};
 ghost use Rattle.rounding.specs.Rounding.{fma, narrow};
-ghost use Rattle.rounding.specs.Tied.{Beside, Reach, Sided, Tied, opposed};
+ghost use Rattle.rounding.specs.Tied.{Beside, Reach, Sided, Tied};
 use super::fused::fma;
 use super::narrowing::narrow;
 
-// The f32 pattern of an f64's pattern; 0 where it is not in the f32's normal range or is negative,
-// and 1 where it has a tie close to it. Half of the last digit that is kept is added, and 29 digits
-// are dropped.
+// The f32 pattern of an f64's pattern, and 0 where it is not in the f32's normal range, is negative
+// or has a tie close to it. Half of the last digit that is kept is added, and 29 digits are dropped.
 fn untied(bits: u64) -> u64
-    ensures { λ r. ⌜ (r ≡ 0) ⊎ (((r ≡ 1) × Beside bits) ⊎ Apart bits r) ⌝ }
+    ensures { λ r. ⌜ (r ≡ 0) ⊎ Apart bits r ⌝ }
 {
     if bits >= 0x3820_0000_0000_0000 {
         if bits < 0x47e0_0000_0000_0000 {
@@ -31,7 +30,6 @@ fn untied(bits: u64) -> u64
                     return raised / 0x2000_0000 - 0x1_c000_0000;
                 }
             }
-            return 1;
         }
     }
     0
@@ -39,7 +37,7 @@ fn untied(bits: u64) -> u64
 
 // Whether the signs of two patterns differ.
 fn opposed(a: u64, b: u64) -> bool
-    ensures { λ r. ⌜ r ≡ opposed a b ⌝ }
+    ensures { λ r. ⌜ r ≡ unlike (negative binary64 a) (negative binary64 b) ⌝ }
 {
     a >> 63 != b >> 63
 }
@@ -85,6 +83,19 @@ fn beside(size: u64, j: u64, p: bool, q: bool, m: u64, c: u64) -> u64
     }
 }
 
+// Whether a pattern is in the f32's normal range, with a tie at most 512 from it.
+fn is_beside(size: u64) -> bool
+    ensures { λ r. ⌜ (r ≡ true → Beside size) ⌝ }
+{
+    if size < 0x3820_0000_0000_0000 {
+        return false;
+    }
+    if size >= 0x47e0_0000_0000_0000 {
+        return false;
+    }
+    (size + 0x1000_0200) % 0x2000_0000 <= 1024
+}
+
 // The exponent's field of a pattern, and its digits where the field is not 0.
 fn field_of(b: u64) -> u64
     ensures { λ r. ⌜ r ≡ field binary64 b ⌝ }
@@ -121,24 +132,22 @@ fn in_reach(b: u64, e: u64, i: u64, j: u64) -> bool
     b % 0x2000_0000 == 0
 }
 
-// The f32 pattern of a * b + c without its sign, from the patterns of the three, and those of the
-// product and the sum by the operators; and 0 where b has more than 24 digits or the terms lie too
-// far from one another. The product's last digit is at the place x; c's is i places above it, and
-// the sum's j.
-fn near_tie(a: u64, b: u64, c: u64, product: u64, bits: u64) -> u64
-    requires { ⌜ Beside (bits % 2 ^ 63) ⌝ }
-    ensures { λ r. ⌜ (r ≡ 0) ⊎ Tied a b c product bits r ⌝ }
+// The f32 pattern of a * b + c without its sign, from the patterns of the three and that of the sum
+// by the operators, `size`; and 0 where no tie is close to it, b has more than 24 digits, or the
+// terms lie too far from one another. The product's last digit is at the place x; c's is i places
+// above it, and that of `size` j.
+fn near_tie(a: u64, b: u64, c: u64, size: u64, p: bool, q: bool) -> u64
+    ensures { λ r. ⌜ (r ≡ 0) ⊎ Tied a b c size p q r ⌝ }
 {
-    let size = bits % 0x8000_0000_0000_0000;
-    let e = field_of(b);
-    let x = field_of(a) + e + 27;
-    let i = std::num::wrapping_sub_u64(field_of(c) + 1073, x);
-    let j = std::num::wrapping_sub_u64(size / 0x10_0000_0000_0000 + 1073, x);
-    if in_reach(b, e, i, j) {
-        let p = opposed(product, bits);
-        let q = opposed(c, bits);
-        let m = low_product(full_digits(a), full_digits(b) / 0x2000_0000);
-        return beside(size, j, p, q, m, full_digits(c) << i);
+    if is_beside(size) {
+        let e = field_of(b);
+        let x = field_of(a) + e + 27;
+        let i = std::num::wrapping_sub_u64(field_of(c) + 1073, x);
+        let j = std::num::wrapping_sub_u64(size / 0x10_0000_0000_0000 + 1073, x);
+        if in_reach(b, e, i, j) {
+            let m = low_product(full_digits(a), full_digits(b) / 0x2000_0000);
+            return beside(size, j, p, q, m, full_digits(c) << i);
+        }
     }
     0
 }
@@ -164,20 +173,22 @@ pub fn fma_narrow(a: f64, b: f64, c: f64) -> u32
         let product = f64::to_bits(p);
         if product % 0x8000_0000_0000_0000 <= size + 0x50_0000_0000_0000 {
             let pattern = untied(size);
-            if pattern > 1 {
+            if pattern > 0 {
                 return signed(bits, pattern);
             }
-            if pattern == 1 {
-                let tied = near_tie(
-                    f64::to_bits(a),
-                    f64::to_bits(b),
-                    f64::to_bits(c),
-                    product,
-                    bits,
-                );
-                if tied > 0 {
-                    return signed(bits, tied);
-                }
+            let term = f64::to_bits(c);
+            let p_taken = opposed(product, bits);
+            let c_taken = opposed(term, bits);
+            let tied = near_tie(
+                f64::to_bits(a),
+                f64::to_bits(b),
+                term,
+                size,
+                p_taken,
+                c_taken,
+            );
+            if tied > 0 {
+                return signed(bits, tied);
             }
         }
     }

@@ -1,18 +1,18 @@
 -- `rounding::fused_narrow::fma_narrow` meets its contract: `narrow-alike` of proofs/Twice.antt where `untied` tells, and `narrow-tied` of proofs/NearTie.antt where `near_tie` does. Assumes nothing.
 use mathlib.Core.Path.{_≡_, sym, ap, _∙_, subst}
 use mathlib.Core.Logic.{_⊎_, inl, inr}
-use mathlib.Core.Bool.{true, not, cond, false≢true}
+use mathlib.Core.Bool.{Bool, true, not, cond, false≢true}
 use Prim.Native.Nat.{ℕ, _+_, _*_, _/_, _%_, _^_, _≤_, _<_}
 use native.Mathlib.Omega.{arith}
 use lib.Dec.{T}
-use lib.Ieee.{Float, nan, inf, fin, Format, binary32, binary64, add, mul, eq, fits, isNan, toBits}
+use lib.Ieee.{Float, nan, inf, fin, Format, binary32, binary64, unlike, add, mul, eq, fits, isNan, toBits}
 use lib.Ieee.Bits.{toBits-lt}
 use lib.Ieee.Fits.{add-fits}
 use borrow.Author.Needs.{needs}
 use Rattle.rounding.specs.Apart.{Apart}
 use Rattle.rounding.specs.Fields.{negative}
 use Rattle.rounding.specs.Rounding.{convert, narrow, fma}
-use Rattle.rounding.specs.Tied.{Beside, Tied}
+use Rattle.rounding.specs.Tied.{Tied}
 use Rattle.rounding.proofs.Read.{convert-fits}
 use Rattle.rounding.proofs.SignBit.{sign-bit}
 use Rattle.rounding.proofs.NearTie.{narrow-tied}
@@ -57,20 +57,7 @@ product-no-nan f (fin s m d) nan h = absurd h
 product-no-nan f (fin s m d) (inf t) h = (tt, tt)
 product-no-nan f (fin s m d) (fin t n e) h = (tt, tt)
 
--- ---- what `untied` tells, and `near_tie` where it is not 0
-no-small : (b r : ℕ) → Apart b r → r ≤ 1 → ⊥
-no-small b r h l = omega (arith, h .least, h .under)
-
-above-one : (b r : ℕ) → 1 < r → (r ≡ 0) ⊎ (((r ≡ 1) × Beside b) ⊎ Apart b r) → Apart b r
-above-one b r h (inl e) = absurd (omega arith)
-above-one b r h (inr (inl e)) = let l = e .0 in absurd (omega arith)
-above-one b r h (inr (inr x)) = x
-
-is-one : (b r : ℕ) → r ≡ 1 → (r ≡ 0) ⊎ (((r ≡ 1) × Beside b) ⊎ Apart b r) → Beside b
-is-one b r h (inl e) = absurd (omega arith)
-is-one b r h (inr (inl e)) = e .1
-is-one b r h (inr (inr x)) = absurd (no-small b r x (omega arith))
-
+-- ---- where `untied` or `near_tie` is not 0
 told : (X : Type 0) (r : ℕ) → 0 < r → (r ≡ 0) ⊎ X → X
 told X r h (inl e) = absurd (omega arith)
 told X r h (inr x) = x
@@ -102,17 +89,18 @@ module _ (c : tie.Start) where
   Fused r = cond (negative binary64 y-bits) (2 ^ 31) 0 + r ≡ narrow (fma binary64 (c .args .a) (c .args .b) (c .args .c))
 
   module _ (e : eq (y-of c) (y-of c) ≡ true) (l : p-bits % 2 ^ 63 ≤ y-bits % 2 ^ 63 + 5 * 2 ^ 52) where
-    by-untied : (r : ℕ) → Apart (y-bits % 2 ^ 63) r → Fused r
+    by-untied : (r : ℕ) → 0 < r → (r ≡ 0) ⊎ Apart (y-bits % 2 ^ 63) r → Fused r
     unfolding y-of p-bits y-bits Fused
-    by-untied r h =
+    by-untied r h o =
         let n = equals-itself (y-of c) e in
-        narrow-alike (c .args .a) (c .args .b) (c .args .c) (held-a c) (held-b c) (held-c c) r (sum-no-nan binary64 _ (c .args .c) n .0) n l h
+        narrow-alike (c .args .a) (c .args .b) (c .args .c) (held-a c) (held-b c) (held-c c) r (sum-no-nan binary64 _ (c .args .c) n .0) n l (told _ r h o)
 
-    by-near-tie : (r : ℕ) → Tied (toBits binary64 (c .args .a)) (toBits binary64 (c .args .b)) (toBits binary64 (c .args .c)) p-bits y-bits r → Fused r
+    by-near-tie : (r : ℕ) (u v : Bool) → u ≡ unlike (negative binary64 p-bits) (negative binary64 y-bits) → v ≡ unlike (negative binary64 (toBits binary64 (c .args .c))) (negative binary64 y-bits) → 0 < r
+        → (r ≡ 0) ⊎ Tied (toBits binary64 (c .args .a)) (toBits binary64 (c .args .b)) (toBits binary64 (c .args .c)) (y-bits % 2 ^ 63) u v r → Fused r
     unfolding y-of p-bits y-bits Fused
-    by-near-tie r h =
+    by-near-tie r u v eu ev h o =
         let n = equals-itself (y-of c) e in
-        narrow-tied (c .args .a) (c .args .b) (c .args .c) (held-a c) (held-b c) (held-c c) r (sum-no-nan binary64 _ (c .args .c) n .0) n l h
+        narrow-tied (c .args .a) (c .args .b) (c .args .c) (held-a c) (held-b c) (held-c c) r (sum-no-nan binary64 _ (c .args .c) n .0) n l (rw (eu, ev) at (told _ r h o))
 
 -- ---- the needs
 float-to-bits-bits : tie.Need-float-to-bits-bits
@@ -131,47 +119,53 @@ signed-requires : tie.Need-signed-requires
 unfolding y-of p-bits y-bits Fused
 signed-requires c κs =
     let t = c .before .before .before in
-    fits-32 _ _ _ (y-lt (t .before)) (by-untied (t .before) (t .if1 .taken) (c .before .before .if2 .taken) (c .before .untied .result) (above-one _ _ (c .if3 .taken) (c .before .untied .ensures)))
+    let f = by-untied (t .before) (t .if1 .taken) (c .before .before .if2 .taken) (c .before .untied .result) (c .if3 .taken) (c .before .untied .ensures) in
+    fits-32 _ _ _ (y-lt (t .before)) f
 
 returns : tie.Need-returns
 unfolding y-of p-bits y-bits Fused
 returns c =
     let w = c .before in
     let t = w .before .before .before in
-    c .signed .ensures ∙ by-untied (t .before) (t .if1 .taken) (w .before .before .if2 .taken) (w .before .untied .result) (above-one _ _ (w .if3 .taken) (w .before .untied .ensures))
+    c .signed .ensures ∙ by-untied (t .before) (t .if1 .taken) (w .before .before .if2 .taken) (w .before .untied .result) (w .if3 .taken) (w .before .untied .ensures)
+
+float-to-bits-term : tie.Need-float-to-bits-term
+float-to-bits-term c = sum-no-nan binary64 _ _ (equals-itself _ (c .before .before .before .if1 .taken)) .1
+
+opposed-requires : tie.Need-opposed-requires
+opposed-requires c κs = search needs
+
+opposed-requires-2 : tie.Need-opposed-requires-2
+opposed-requires-2 c κs = search needs
 
 float-to-bits-near-tie : tie.Need-float-to-bits-near-tie
 float-to-bits-near-tie c =
-    let t = c .before .before .before .before in
-    let a = t .before .args in
-    product-no-nan binary64 (a .a) (a .b) (sum-no-nan binary64 (mul binary64 (a .a) (a .b)) (a .c) (equals-itself _ (t .if1 .taken)) .0) .0
+    let s = c .before .before .before .before .before .before .args in
+    product-no-nan binary64 (s .a) (s .b) (sum-no-nan binary64 (mul binary64 (s .a) (s .b)) (s .c) (equals-itself _ (c .before .before .before .before .before .if1 .taken)) .0) .0
 
 float-to-bits-near-tie-2 : tie.Need-float-to-bits-near-tie-2
 float-to-bits-near-tie-2 c =
-    let t = c .before .before .before .before in
-    let a = t .before .args in
-    product-no-nan binary64 (a .a) (a .b) (sum-no-nan binary64 (mul binary64 (a .a) (a .b)) (a .c) (equals-itself _ (t .if1 .taken)) .0) .1
-
-float-to-bits-near-tie-3 : tie.Need-float-to-bits-near-tie-3
-float-to-bits-near-tie-3 c = let t = c .before .before .before .before in sum-no-nan binary64 _ (t .before .args .c) (equals-itself _ (t .if1 .taken)) .1
+    let s = c .before .before .before .before .before .before .args in
+    product-no-nan binary64 (s .a) (s .b) (sum-no-nan binary64 (mul binary64 (s .a) (s .b)) (s .c) (equals-itself _ (c .before .before .before .before .before .if1 .taken)) .0) .1
 
 near-tie-requires : tie.Need-near-tie-requires
-near-tie-requires c κs = is-one _ _ (c .if4 .taken) (c .before .before .untied .ensures)
+near-tie-requires c κs = search needs
 
 signed-requires-2 : tie.Need-signed-requires-2
 unfolding y-of p-bits y-bits Fused
 signed-requires-2 c κs =
-    let d = c .before .before .before .before .before in
-    let t = d .before in
-    fits-32 _ _ _ (y-lt (t .before)) (by-near-tie (t .before) (t .if1 .taken) (d .if2 .taken) (c .before .near-tie .result) (told _ _ (c .if5 .taken) (c .before .near-tie .ensures)))
+    let o = c .before .before in
+    let t = o .before .before .before .before .before in
+    let f = by-near-tie (t .before) (t .if1 .taken) (o .before .before .before .before .if2 .taken) (c .before .near-tie .result) (o .before .opposed .result) (o .opposed2 .result) (o .before .opposed .ensures) (o .opposed2 .ensures) (c .if4 .taken) (c .before .near-tie .ensures) in
+    fits-32 _ _ _ (y-lt (t .before)) f
 
 returns-2 : tie.Need-returns-2
 unfolding y-of p-bits y-bits Fused
 returns-2 c =
     let w = c .before in
-    let d = w .before .before .before .before .before in
-    let t = d .before in
-    c .signed2 .ensures ∙ by-near-tie (t .before) (t .if1 .taken) (d .if2 .taken) (w .before .near-tie .result) (told _ _ (w .if5 .taken) (w .before .near-tie .ensures))
+    let o = w .before .before in
+    let t = o .before .before .before .before .before in
+    c .signed2 .ensures ∙ by-near-tie (t .before) (t .if1 .taken) (o .before .before .before .before .if2 .taken) (w .before .near-tie .result) (o .before .opposed .result) (o .opposed2 .result) (o .before .opposed .ensures) (o .opposed2 .ensures) (w .if4 .taken) (w .before .near-tie .ensures)
 
 fma-requires : tie.Need-fma-requires
 fma-requires c κs = search needs
@@ -192,9 +186,11 @@ fma-narrow-spec =
     untied-requires
     signed-requires
     returns
+    float-to-bits-term
+    opposed-requires
+    opposed-requires-2
     float-to-bits-near-tie
     float-to-bits-near-tie-2
-    float-to-bits-near-tie-3
     near-tie-requires
     signed-requires-2
     returns-2
