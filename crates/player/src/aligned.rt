@@ -147,7 +147,7 @@ fn write_channel(part: &mut [u32], channel: &[u32], turns: bool, first: usize)
 
 // Writes `count` channels of the output, each into its own part. Channel c of the samples is their
 // `frames` frames from frames * c on.
-pub fn write_aligned(
+pub(crate) fn write_aligned(
     out: &mut [u32],
     samples: &[u32],
     frames: usize,

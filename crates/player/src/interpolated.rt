@@ -177,7 +177,7 @@ fn write_channel(
 
 // Writes `count` channels of the output, each into its own part. Channel c of the samples is their
 // `frames` frames from frames * c on.
-pub fn write_interpolated<'a>(
+pub(crate) fn write_interpolated<'a>(
     out: &mut [u32],
     samples: &[u32],
     frames: usize,

@@ -115,7 +115,7 @@ fn play(session: Session, samples: &[u32], words: &mut [u32], out: &mut [u8]) ->
 }
 
 // Obeys a line where there is room for what it prints.
-pub fn obey_line(
+pub(crate) fn obey_line(
     session: Session,
     line: &[u8],
     samples: &[u32],

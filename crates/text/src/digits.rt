@@ -15,7 +15,7 @@ fn digit(d: u8) -> u8
 }
 
 // Stores eight hex digits from `at` on.
-pub fn put_hex(out: &mut [u8], at: usize, v: u32)
+pub(crate) fn put_hex(out: &mut [u8], at: usize, v: u32)
     requires { ⌜ at + 8 ≤ length (now out) ⌝ }
     ensures { λ _. ⌜ now (out .exit) ≡ sets (now (out .entry)) at (hex 8 v) ⌝ }
 {
@@ -29,7 +29,7 @@ pub fn put_hex(out: &mut [u8], at: usize, v: u32)
 }
 
 // Stores a decimal of at most `places` digits from `at` on, and returns the place after it.
-pub fn put_decimal(out: &mut [u8], at: usize, v: usize, places: usize) -> usize
+pub(crate) fn put_decimal(out: &mut [u8], at: usize, v: usize, places: usize) -> usize
     requires { ⌜ at + places ≤ length (now out) ⌝ }
     ensures { λ r. ⌜ (r ≡ at + length (decimalOf places v)) × (now (out .exit) ≡ sets (now (out .entry)) at (decimalOf places v)) ⌝ }
 {
@@ -57,7 +57,7 @@ fn digit_value(b: u8) -> u64
 }
 
 // Reads the 16 hex digits that stand from `at` on.
-pub fn read_hex(line: &[u8], at: usize) -> Number
+pub(crate) fn read_hex(line: &[u8], at: usize) -> Number
     requires { ⌜ at + 16 ≤ length (now line) ⌝ }
     ensures { λ r. ⌜ r ≡ hexAt (now (line .entry)) at ⌝ }
 {
