@@ -12,7 +12,7 @@ use lib.ListN.{length, getD}
 use lib.Ieee.{Float, binary64, lt, le, eq, mul}
 use lib.Ieee.Bits.{is-true}
 use lib.Ieee.Exact.{HasValue}
-use Rattle.player.specs.Seconds.{never, one, blockEnd, instant}
+use Rattle.seconds.specs.Seconds.{never, one, blockEnd, instant}
 use Rattle.buffer.specs.Channels.{channel}
 use Rattle.player.specs.Block.{Plan, plan}
 use Rattle.player.specs.declared.Player.{Player}

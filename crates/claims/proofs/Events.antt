@@ -11,7 +11,7 @@ use lib.ListN.{length, getD}
 use lib.Ieee.{Float, binary32, binary64, fits, lt, le}
 use lib.Ieee.Fits.{and-l}
 use lib.Ieee.Scale.{finite}
-use Rattle.player.specs.Seconds.{none, one}
+use Rattle.seconds.specs.Seconds.{none, one}
 use Rattle.buffer.specs.Channels.{channel}
 use Rattle.player.specs.Block.{Plan, plan, latest, badBlockTime, badRate, badSamples, refusal, rendered, output, written, reportOf}
 use Rattle.player.specs.declared.Player.{Player}

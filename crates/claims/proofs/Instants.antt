@@ -22,7 +22,7 @@ use Rattle.rounding.proofs.Compare.{eq-value, lt-at, le-at}
 use Rattle.rounding.proofs.Sum.{Order, order, less, more, sum-alike, sum-less, sum-none}
 use Rattle.rounding.proofs.Sum as places
 use Rattle.rounding.specs.Rounding.{whole}
-use Rattle.player.specs.Seconds.{none, dt, blockSeconds, instant, blockEnd}
+use Rattle.seconds.specs.Seconds.{none, dt, blockSeconds, instant, blockEnd}
 use Rattle.player.specs.Block.{latest}
 use Rattle.claims.proofs.Order.{eq-alike, eq-refl, lt-not-le}
 use Rattle.claims.proofs.Position.{Elapsed}

@@ -8,8 +8,8 @@ use lib.Ieee.Exact.{HasValue}
 use lib.Ieee.Scale.{finite}
 use Rattle.buffer.specs.Limits.{duration}
 use Rattle.rounding.specs.Rounding.{whole}
-use Rattle.player.specs.Seconds.{none, never, one, blockSeconds, instant, blockEnd}
-use Rattle.player.specs.Aligned.{firstFrame}
+use Rattle.seconds.specs.Seconds.{none, never, one, blockSeconds, instant, blockEnd}
+use Rattle.aligned.specs.Aligned.{firstFrame}
 use Rattle.player.specs.Block.{latest}
 use Rattle.claims.specs.LongRun.{Reports}
 use Rattle.claims.proofs.Order as order

@@ -10,7 +10,7 @@ use lib.ListN.{length}
 use lib.Ieee.{Float, binary32, ofBits, fits, lt, le, eq}
 use lib.Ieee.Bits.{is-true}
 use Rattle.buffer.specs.Limits.{validRate, validShape, duration, Valid, valid}
-use Rattle.player.specs.Seconds.{context, inClip, none, never}
+use Rattle.seconds.specs.Seconds.{context, inClip, none, never}
 use Rattle.player.specs.Record.{shapeOf, loopOf, renderOf, fresh, told, given}
 use Rattle.player.specs.Messages.{clampedStart, clampedEnd, clamped, badTime, onStart, onStop, onLoop, handled, buffered}
 use Rattle.buffer.specs.declared.Shape.{Shape}

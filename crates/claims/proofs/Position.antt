@@ -20,13 +20,13 @@ use lib.Ieee.Back.{unsigned-back}
 use borrow.Author.Tests.{ltb-true, ne-eqb, lt-ltb, le-ltb}
 use Rattle.rounding.proofs.Compare.{lt-at, le-at}
 use Rattle.rounding.proofs.Wholes.{away-value, cast-fits}
-use Rattle.player.specs.Aligned.{firstFrame}
+use Rattle.aligned.specs.Aligned.{firstFrame}
 use Rattle.claims.specs.LongRun.{Reports}
 use Rattle.claims.proofs.Order.{lt-asym, lt-not-le, lt-le, lt-irrefl, ne-irrefl, value-finite}
 use Rattle.claims.proofs.Units.{none-value, none-units, block-lasts, by-one, roughly, rate-pos, quotient-fine}
 use Rattle.buffer.specs.Limits.{duration}
 use Rattle.rounding.specs.Rounding.{whole}
-use Rattle.player.specs.Seconds.{none, never, one, blockSeconds}
+use Rattle.seconds.specs.Seconds.{none, never, one, blockSeconds}
 
 -- x seconds at the rate r, which is R of binary32's units, are a frames within j times 2 ^ -28 frame: counted in whole multiples of 2 ^ -1223
 pub record Frames (r x : Float) (R j a : ℕ) : Type 0 where

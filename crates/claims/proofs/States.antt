@@ -12,11 +12,11 @@ use lib.ListN.{getD}
 use lib.Ieee.{Float, binary64, add, mul, div, lt, le, eq, ne}
 use lib.Ieee.Exact.{HasValue}
 use Rattle.buffer.specs.Limits.{duration}
-use Rattle.player.specs.Seconds.{context, inClip, none, never, one, blockSeconds, blockEnd, instant}
+use Rattle.seconds.specs.Seconds.{context, inClip, none, never, one, blockSeconds, blockEnd, instant}
 use Rattle.player.specs.Record.{shapeOf, loopOf, renderOf, moved}
-use Rattle.player.specs.Aligned.{firstFrame, endsWithin, alignedSample, lastWrap, alignedPosition}
-use Rattle.player.specs.SubSample.{headAt, isIdle, infoOfSample, sampleOf}
-use Rattle.player.specs.declared.Playhead.{Playhead}
+use Rattle.aligned.specs.Aligned.{firstFrame, endsWithin, alignedSample, lastWrap, alignedPosition}
+use Rattle.sub_sample.specs.SubSample.{headAt, isIdle, infoOfSample, sampleOf}
+use Rattle.sub_sample.specs.declared.Playhead.{Playhead}
 use Rattle.buffer.specs.Channels.{channel}
 use Rattle.player.specs.Block.{Plan, silent, idle, startAt, isAligned, hasEnded, turnsOver, alignedPlan, settings, firstHead, subSamplePlan, plan}
 use Rattle.player.specs.declared.Player.{Player}

@@ -13,10 +13,10 @@ use lib.Ieee.{Float, binary64, add, div, rem, lt}
 use lib.Ieee.Exact.{HasValue}
 use Rattle.buffer.specs.Limits.{duration}
 use Rattle.rounding.specs.Rounding.{whole}
-use Rattle.player.specs.Seconds.{blockSeconds, none}
-use Rattle.player.specs.Aligned.{firstFrame, endsWithin, played, nextFrame, alignedSample, lastWrap, alignedPosition}
-use Rattle.player.specs.declared.Wrap.{Wrap}
-use Rattle.player.specs.declared.Wrap.the-variants.{Never, At}
+use Rattle.seconds.specs.Seconds.{blockSeconds, none}
+use Rattle.aligned.specs.Aligned.{firstFrame, endsWithin, played, nextFrame, alignedSample, lastWrap, alignedPosition}
+use Rattle.aligned.specs.declared.Wrap.{Wrap}
+use Rattle.aligned.specs.declared.Wrap.the-variants.{Never, At}
 use Rattle.claims.specs.LongRun.{exactFrames}
 use Rattle.claims.proofs.Tape.{straight, never-wraps, plays-straight, place, plays-turning, Wraps, within, over, wraps}
 use Rattle.claims.proofs.Exact.{exact-le, exact-mod, exact-rest, exact-on, exact-over}

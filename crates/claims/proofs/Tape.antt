@@ -8,9 +8,9 @@ use native.Mathlib.Nat.{le-trans, le-of-eq, le-of-lt, lt-of-lt-of-le, eq-or-lt-o
 use native.Mathlib.Omega.{arith}
 use borrow.Author.Tests.{leb-true, leb-false, le-leb, lt-leb}
 use lib.Dec.{leb}
-use Rattle.player.specs.Aligned.{played, nextFrame, lastWrap}
-use Rattle.player.specs.declared.Wrap.{Wrap}
-use Rattle.player.specs.declared.Wrap.the-variants.{Never, At}
+use Rattle.aligned.specs.Aligned.{played, nextFrame, lastWrap}
+use Rattle.aligned.specs.declared.Wrap.{Wrap}
+use Rattle.aligned.specs.declared.Wrap.the-variants.{Never, At}
 
 -- ---- a block that doesn't turn over goes straight on
 pub straight : (l a i : ℕ) → nextFrame false l a i ≡ a + i

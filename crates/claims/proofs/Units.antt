@@ -16,7 +16,7 @@ use Rattle.rounding.proofs.Operations.{div-near}
 use Rattle.rounding.proofs.Exact.{Significand, significand, two-values, mul-pow, whole-exact}
 use Rattle.buffer.specs.Limits.{validRate}
 use Rattle.rounding.specs.Rounding.{whole}
-use Rattle.player.specs.Seconds.{none, one, dt, blockSeconds}
+use Rattle.seconds.specs.Seconds.{none, one, dt, blockSeconds}
 
 pub one-value : HasValue one false 1 1
 unfolding ofBits

@@ -11,7 +11,7 @@ use lib.Ieee.{Float, binary32, ofBits, fits, le}
 use lib.Ieee.Bits.{is-true}
 use Rattle.buffer.specs.Limits.{validRate}
 use Rattle.buffer.specs.declared.Shape.{Shape}
-use Rattle.player.specs.Seconds.{none, never}
+use Rattle.seconds.specs.Seconds.{none, never}
 use Rattle.player.specs.Record.{shapeOf, fresh}
 use Rattle.player.specs.declared.Player.{Player}
 use Rattle.player.specs.declared.ControlMessage.the-variants.{Start, Stop, Loop, LoopStart, LoopEnd}

@@ -4,7 +4,7 @@ use mathlib.Core.List.{List, [], _∷_, _++_}
 use Prim.Native.Nat.{ℕ, _+_, _*_}
 use lib.ListN.{length, getD}
 use lib.Ieee.{Float, binary32, binary64, fits}
-use Rattle.player.specs.Seconds.{none}
+use Rattle.seconds.specs.Seconds.{none}
 use Rattle.player.specs.Messages.{handled, buffered}
 use Rattle.player.specs.Block.{rendered, output}
 use Rattle.player.specs.declared.Player.{Player}

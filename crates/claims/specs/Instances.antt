@@ -8,7 +8,7 @@ use lib.IntN.{pos, negsuc}
 use lib.ListN.{length, replicate}
 use lib.Ieee.{Float, fin, binary32, fits}
 use Rattle.buffer.specs.Limits.{validRate}
-use Rattle.player.specs.Seconds.{none, never, one}
+use Rattle.seconds.specs.Seconds.{none, never, one}
 use Rattle.player.specs.Record.{fresh}
 use Rattle.player.specs.declared.ControlMessage.the-variants.{Start, Stop, Loop}
 use Rattle.claims.specs.Calls.{Call, buffer, message, block, allTyped, accepted, playing}

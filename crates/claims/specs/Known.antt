@@ -9,7 +9,7 @@ use lib.Ieee.{Float, fin}
 use Rattle.rounding.specs.Known.{KnownRounding}
 use Rattle.buffer.specs.Known.{KnownBuffer}
 use Rattle.lists.specs.Table.{table}
-use Rattle.player.specs.Seconds.{none, never, one, blockEnd}
+use Rattle.seconds.specs.Seconds.{none, never, one, blockEnd}
 use Rattle.player.specs.Record.{fresh}
 use Rattle.player.specs.Messages.{clampedStart, clampedEnd}
 use Rattle.player.specs.Block.{plan}

@@ -8,7 +8,7 @@ use lib.Dec.{T, eqb, ltb}
 use lib.ListN.{length, getD}
 use lib.Ieee.{Float, binary32, fits, lt, le, eq}
 use lib.Ieee.Exact.{HasValue}
-use Rattle.player.specs.Seconds.{none, never, one, instant, blockEnd}
+use Rattle.seconds.specs.Seconds.{none, never, one, instant, blockEnd}
 use Rattle.buffer.specs.Limits.{validRate}
 use Rattle.player.specs.Record.{fresh}
 use Rattle.buffer.specs.Channels.{channel}

@@ -12,7 +12,7 @@ use Rattle.buffer.specs.declared.Parted.{Parted}
 use Rattle.buffer.specs.declared.Parted.the-variants as parted
 use Rattle.clip.specs.declared.ClipRead.{ClipRead}
 use Rattle.clip.specs.declared.ClipRead.the-variants as clip
-use Rattle.player.specs.Seconds.{context, inClip, none}
+use Rattle.seconds.specs.Seconds.{context, inClip, none}
 use Rattle.player.specs.Record.{shapeOf, loopOf, renderOf}
 use Rattle.player.specs.declared.Player.{Player}
 use Rattle.netthimble.specs.declared.Shaped.{Shaped}

@@ -6,7 +6,7 @@ use Rattle.player.specs.declared.Handled.{Handled}
 use Rattle.player.specs.declared.Handled.the-variants.{Done, Refused}
 use Rattle.player.specs.declared.Rendered.{Rendered}
 use Rattle.player.specs.declared.Rendered.the-variants as rendered
-use Rattle.player.specs.Seconds.{inClip, none}
+use Rattle.seconds.specs.Seconds.{inClip, none}
 use Rattle.netthimble.specs.declared.Told.{Told}
 use Rattle.netthimble.specs.declared.Blocked.{Blocked}
 

@@ -8,11 +8,11 @@ ghost use Rattle.netthimble.specs.Lent.{afterCall, afterBlock};
 use super::BlockAnswer;
 use super::Blocked;
 use super::Told;
-use player::BufferSeconds;
 use player::ControlMessage;
 use player::Handled;
 use player::Player;
 use player::Rendered;
+use seconds::BufferSeconds;
 
 pub(crate) fn after_call(p: Player, handled: Handled) -> Told
     ensures { λ r. ⌜ r ≡ afterCall p handled ⌝ }

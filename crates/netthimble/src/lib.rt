@@ -12,8 +12,8 @@ use buffer::Shape;
 pub use lent::handle_control_message;
 pub use lent::netthimble_player_process;
 pub use lent::netthimble_player_set_buffer;
-use player::BufferSeconds;
 use player::Player;
+use seconds::BufferSeconds;
 
 // The player that a message or a buffer call leaves, and the number of its refusal, 0 for none.
 #[repr(C)]

@@ -7,12 +7,12 @@ use super::Told;
 use super::buffers::no_shape;
 use super::lent::after_call;
 use super::lent::message_by_value;
-use player::BufferSeconds;
-use player::ContextSeconds;
 use player::ControlMessage;
 use player::LoopState;
 use player::Player;
 use player::RenderState;
+use seconds::BufferSeconds;
+use seconds::ContextSeconds;
 
 // The player that a refused rate is answered with.
 fn nobody() -> Player

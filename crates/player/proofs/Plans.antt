@@ -10,7 +10,7 @@ use Rattle.lists.specs.Parts.{put}
 use Rattle.buffer.specs.Limits.{Valid, valid}
 use Rattle.player.specs.declared.Player.{Player}
 use Rattle.player.specs.declared.BlockReport.{BlockReport}
-use Rattle.player.specs.Seconds.{never, blockEnd}
+use Rattle.seconds.specs.Seconds.{never, blockEnd}
 use Rattle.player.specs.Block.{Plan, silent, idle, computedRate, isAligned, alignedPlan, subSamplePlan, plan, badSamples, reportOf, written}
 
 -- what a block answers, and what its output then holds, by its plan

@@ -6,11 +6,11 @@ use Prim.Native.Nat.{ℕ, zero, suc, _<_}
 use lib.Ieee.{nan}
 use Rattle.lists.specs.Table.{table, table-same, getD-table}
 use Rattle.buffer.specs.Channels.{channel}
-use Rattle.player.specs.declared.Settings.{Settings}
-use Rattle.player.specs.declared.Playhead.{Playhead}
-use Rattle.player.specs.declared.Infos.{Infos}
-use Rattle.player.specs.SubSample.{infoOfSample, headAt, sampleOf}
-use Rattle.player.specs.Infos.{infoIn, infosOf, sampleBy}
+use Rattle.sub_sample.specs.declared.Settings.{Settings}
+use Rattle.sub_sample.specs.declared.Playhead.{Playhead}
+use Rattle.sub_sample.specs.declared.Infos.{Infos}
+use Rattle.sub_sample.specs.SubSample.{infoOfSample, headAt, sampleOf}
+use Rattle.sub_sample.specs.Infos.{infoIn, infosOf, sampleBy}
 use Rattle.player.specs.Block.{written}
 
 -- by two functions that agree below the block's length

@@ -13,15 +13,15 @@ use Rattle.lists.specs.Parts.{put}
 use Rattle.buffer.specs.Channels.{channel}
 use Rattle.buffer.specs.Limits.{validShape, duration}
 use Rattle.buffer.specs.Refusals.{SHAPE, LENGTH, TIME, SPEED}
-use Rattle.player.specs.Seconds.{context, inClip, never, none, one, dt, blockSeconds, blockEnd}
+use Rattle.seconds.specs.Seconds.{context, inClip, never, none, one, dt, blockSeconds, blockEnd}
 use Rattle.player.specs.Record.{renderOf, moved}
 use Rattle.player.specs.Reports.{reportFrom}
-use Rattle.player.specs.Aligned.{firstFrame, endsWithin, alignedSample, lastWrap, alignedPosition}
-use Rattle.player.specs.SubSample.{headOf, headAt, infoOfSample, sampleOf}
+use Rattle.aligned.specs.Aligned.{firstFrame, endsWithin, alignedSample, lastWrap, alignedPosition}
+use Rattle.sub_sample.specs.SubSample.{headOf, headAt, infoOfSample, sampleOf}
 use Rattle.player.specs.declared.Player.{Player}
 use Rattle.player.specs.declared.RenderState.{RenderState}
-use Rattle.player.specs.declared.Settings.{Settings}
-use Rattle.player.specs.declared.Playhead.{Playhead}
+use Rattle.sub_sample.specs.declared.Settings.{Settings}
+use Rattle.sub_sample.specs.declared.Playhead.{Playhead}
 use Rattle.player.specs.declared.BlockReport.{BlockReport}
 use Rattle.player.specs.declared.Rendered.{Rendered}
 use Rattle.player.specs.declared.Rendered.the-variants.{Block, Refused}

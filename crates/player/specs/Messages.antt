@@ -5,7 +5,7 @@ use Prim.Native.Nat.{ℕ}
 use lib.Dec.{eqb}
 use lib.Ieee.{Float, lt, le}
 use lib.Ieee.Scale.{finite}
-use Rattle.player.specs.Seconds.{context, inClip, none}
+use Rattle.seconds.specs.Seconds.{context, inClip, none}
 use Rattle.player.specs.Record.{shapeOf, loopOf, fresh, told, given}
 use Rattle.buffer.specs.Limits.{validRate, validShape, duration}
 use Rattle.buffer.specs.Refusals.{SHAPE, RATE, VALUE, SECOND, EARLY, EMPTY}

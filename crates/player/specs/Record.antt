@@ -2,9 +2,9 @@
 use mathlib.Core.Bool.{Bool, true, false}
 use Prim.Native.Nat.{ℕ}
 use lib.Ieee.{Float, binary32, ofBits}
-use Rattle.player.specs.Seconds.{context, inClip, never, none}
-use Rattle.player.specs.declared.ContextSeconds.{ContextSeconds}
-use Rattle.player.specs.declared.BufferSeconds.{BufferSeconds}
+use Rattle.seconds.specs.Seconds.{context, inClip, never, none}
+use Rattle.seconds.specs.declared.ContextSeconds.{ContextSeconds}
+use Rattle.seconds.specs.declared.BufferSeconds.{BufferSeconds}
 use Rattle.player.specs.declared.LoopState.{LoopState}
 use Rattle.player.specs.declared.RenderState.{RenderState}
 use Rattle.buffer.specs.declared.Shape.{Shape}

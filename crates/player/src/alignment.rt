@@ -2,14 +2,14 @@
 ghost use mathlib.Core.Path.{_≡_};
 ghost use mathlib.Core.Bool.{_&&_, _||_};
 ghost use lib.Ieee.{binary64, add, lt, le, eq, ne};
-ghost use Rattle.player.specs.Seconds.{none, one, blockSeconds, blockEnd};
+ghost use Rattle.seconds.specs.Seconds.{none, one, blockSeconds, blockEnd};
 ghost use Rattle.player.specs.Block.{clipSeconds, samplingRatio, startAt, isAligned, hasEnded, turnsOver, firstOf};
 use super::Player;
-use super::aligned::ends_within;
-use super::aligned::first_frame;
-use super::seconds::block_end;
-use super::seconds::block_seconds;
-use super::seconds::widened;
+use aligned::ends_within;
+use aligned::first_frame;
+use seconds::block_end;
+use seconds::block_seconds;
+use seconds::widened;
 
 impl Player {
     // The clip's duration.

@@ -1,15 +1,15 @@
 // What a sub-sample block starts from.
 ghost use mathlib.Core.Path.{_≡_};
 ghost use mathlib.Core.Bool.{_&&_, cond};
-ghost use Rattle.player.specs.Seconds.{none};
+ghost use Rattle.seconds.specs.Seconds.{none};
 ghost use Rattle.player.specs.Block.{clipSeconds, ownLoop, settings, firstHead};
-use super::BufferSeconds;
-use super::ContextSeconds;
 use super::Player;
-use super::Playhead;
-use super::Settings;
-use super::seconds::sample_seconds;
-use super::seconds::widened;
+use seconds::BufferSeconds;
+use seconds::ContextSeconds;
+use seconds::sample_seconds;
+use seconds::widened;
+use sub_sample::Playhead;
+use sub_sample::Settings;
 
 impl Player {
     // Whether the loop points are in order.

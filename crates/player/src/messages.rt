@@ -3,17 +3,17 @@ ghost use mathlib.Core.Path.{_≡_};
 ghost use lib.ListN.{length};
 ghost use Rattle.player.specs.Record.{fresh};
 ghost use Rattle.player.specs.Messages.{made, buffered, handled, badTime, clampedStart, clampedEnd, clamped, onStart, onStop, onLoop, onLoopStart, onLoopEnd};
-use super::BufferSeconds;
-use super::ContextSeconds;
 use super::ControlMessage;
 use super::Handled;
 use super::LoopState;
 use super::Player;
 use super::RenderState;
-use super::seconds::NEVER;
 use buffer::Shape;
 use buffer::refusals;
 use rounding::is_finite;
+use seconds::BufferSeconds;
+use seconds::ContextSeconds;
+use seconds::NEVER;
 
 // A value that no start and no stop may carry.
 fn is_bad_time(x: f64) -> bool

@@ -2,9 +2,9 @@
 ghost use mathlib.Core.Path.{_≡_};
 ghost use Rattle.player.specs.Block.{badBlockTime, badRate, badSamples, refusal};
 use super::Player;
-use super::seconds::widened;
 use buffer::refusals;
 use rounding::is_finite;
+use seconds::widened;
 
 // 2^30 seconds.
 const LATEST: f64 = 1073741824.0;

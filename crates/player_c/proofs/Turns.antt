@@ -6,7 +6,7 @@ use Prim.Native.Nat.{ℕ, _+_}
 use native.Mathlib.Numerals.{add-one}
 use lib.ListN.{length}
 use lib.Ieee.{Float}
-use Rattle.player.specs.Seconds.{one}
+use Rattle.seconds.specs.Seconds.{one}
 use Rattle.player.specs.Block.{rendered, output}
 use Rattle.player.specs.declared.Player.{Player}
 use Rattle.player.specs.declared.Handled.{Handled}

@@ -5,7 +5,7 @@ use Prim.Native.Nat.{ℕ, zero, suc}
 use lib.ListN.{length}
 use lib.Ieee.{Float, binary64, mul, div}
 use Rattle.rounding.specs.Rounding.{whole}
-use Rattle.player.specs.Seconds.{none, never, one}
+use Rattle.seconds.specs.Seconds.{none, never, one}
 use Rattle.player.specs.Messages.{made, buffered, handled}
 use Rattle.player.specs.Block.{rendered, output}
 use Rattle.player.specs.declared.Player.{Player}

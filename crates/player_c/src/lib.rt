@@ -1,7 +1,7 @@
 // The player's blocks for C, to be measured beside the Rust's (tools/bench).
 ghost use mathlib.Core.Path.{_≡_};
 ghost use lib.ListN.{length};
-ghost use Rattle.player.specs.Seconds.{one};
+ghost use Rattle.seconds.specs.Seconds.{one};
 ghost use Rattle.player.specs.Block.{rendered, output};
 ghost use Rattle.player_c.specs.Playing.{given, sent, begun, blockTime, left, goesOn, outputAfter};
 use player::ControlMessage;

@@ -6,7 +6,7 @@ use native.Mathlib.Omega.{arith}
 use borrow.Author.Tests.{eqb-true, not-false}
 use lib.Dec.{eqb}
 use lib.Ieee.{Float, le, ne}
-use Rattle.player.specs.Seconds.{never, blockEnd}
+use Rattle.seconds.specs.Seconds.{never, blockEnd}
 use Rattle.player.specs.Block.{Plan, silent, idle, computedRate, isAligned, alignedPlan, subSamplePlan, plan, badBlockTime, badRate, badSamples, refusal, reportOf, rendered}
 use Rattle.player.specs.declared.Player.{Player}
 use Rattle.player.specs.declared.BlockReport.{BlockReport}

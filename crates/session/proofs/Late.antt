@@ -22,7 +22,7 @@ use Rattle.rounding.proofs.Exact.{whole-exact}
 use Rattle.rounding.proofs.Operations.{div-at, div-near-any}
 use Rattle.buffer.specs.Limits.{validRate}
 use Rattle.buffer.specs.Refusals.{TIME}
-use Rattle.player.specs.Seconds.{none, one}
+use Rattle.seconds.specs.Seconds.{none, one}
 use Rattle.player.specs.Block.{latest, badBlockTime, refusal, rendered}
 use Rattle.player.specs.declared.Player.{Player}
 use Rattle.player.specs.declared.Rendered.the-variants.{Refused}

@@ -10,7 +10,7 @@ use Rattle.text.specs.Lines.{channelLines, blockText, refusalText, blockRoom}
 use Rattle.text.proofs.Runs.{length-field, length-runs, length-block}
 use Rattle.text.specs.declared.Command.{Command}
 use Rattle.text.specs.declared.Command.the-variants.{Start, Stop, LoopStart, LoopEnd, Loop, Block, Unknown}
-use Rattle.player.specs.Seconds.{one}
+use Rattle.seconds.specs.Seconds.{one}
 use Rattle.player.specs.Messages.{handled}
 use Rattle.player.specs.Block.{rendered}
 use Rattle.player.specs.declared.BlockReport.{BlockReport}

@@ -10,7 +10,7 @@ use lib.ListN.{length}
 use lib.Seq.{sets}
 use lib.Ieee as ieee
 use lib.Ieee.{Float, binary32, ofBits}
-use Rattle.player.specs.Seconds.{one}
+use Rattle.seconds.specs.Seconds.{one}
 use Rattle.player.specs.Messages.{handled}
 use Rattle.player.specs.Block.{rendered, output}
 use Rattle.player.specs.declared.Player.{Player}

@@ -7,7 +7,7 @@ use lib.ListN.{length}
 use lib.Seq.{sets}
 use lib.Ieee.{Float, binary64, ofBits, div}
 use Rattle.rounding.specs.Rounding.{whole}
-use Rattle.player.specs.Seconds.{one}
+use Rattle.seconds.specs.Seconds.{one}
 use Rattle.player.specs.Messages.{handled}
 use Rattle.player.specs.Block.{rendered, output}
 use Rattle.player.specs.declared.Player.{Player}

@@ -5,10 +5,10 @@ use lib.Ieee.{ofBits, ofInt, round, sum, add, mul, div, rem, lt, le, eq, ne, neg
 use Rattle.lists.specs.Table.{table}
 use Rattle.rounding.specs.Rounding.{roundAway}
 use Rattle.buffer.specs.Limits.{validRate, validShape, duration}
-use Rattle.player.specs.Seconds.{dt, blockSeconds, blockEnd}
+use Rattle.seconds.specs.Seconds.{dt, blockSeconds, blockEnd}
 use Rattle.player.specs.Record.{fresh}
 use Rattle.player.specs.Messages.{clampedStart, clampedEnd, clamped, badTime, onStart, onLoop, handled, buffered}
-use Rattle.player.specs.Aligned.{firstFrame, endsWithin, played, nextFrame, alignedSample, lastWrap, alignedPosition}
+use Rattle.aligned.specs.Aligned.{firstFrame, endsWithin, played, nextFrame, alignedSample, lastWrap, alignedPosition}
 use Rattle.player.specs.Block.{startAt, isAligned, hasEnded, turnsOver, alignedPlan, plan}
 use Rattle.claims.specs.Calls.{next}
 use Rattle.claims.specs.Known.{KnownLoopPoints, KnownPlayback}

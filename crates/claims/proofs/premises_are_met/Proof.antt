@@ -7,11 +7,11 @@ use lib.ListN.{length}
 use lib.Ieee.{ofBits, ofInt, round, sum, add, mul, div, rem, lt, le, eq, ne, fits, neg, sub, toUnsigned}
 use Rattle.rounding.specs.Rounding.{roundAway}
 use Rattle.buffer.specs.Limits.{validRate, validShape, duration}
-use Rattle.player.specs.Seconds.{none, never, dt, blockSeconds, blockEnd}
+use Rattle.seconds.specs.Seconds.{none, never, dt, blockSeconds, blockEnd}
 use Rattle.player.specs.Record.{fresh}
 use Rattle.player.specs.Messages.{clampedStart, clampedEnd, clamped, badTime, onStart, onStop, onLoop, handled, buffered}
-use Rattle.player.specs.Aligned.{firstFrame, endsWithin, played, nextFrame, lastWrap, alignedPosition}
-use Rattle.player.specs.SubSample.{headAt}
+use Rattle.aligned.specs.Aligned.{firstFrame, endsWithin, played, nextFrame, lastWrap, alignedPosition}
+use Rattle.sub_sample.specs.SubSample.{headAt}
 use Rattle.player.specs.Block.{idle, startAt, isAligned, hasEnded, turnsOver, alignedPlan, subSamplePlan, settings, firstHead, plan, badBlockTime, badRate, badSamples, refusal, rendered}
 use Rattle.claims.specs.Calls.{Call, allTyped, accepts, next, accepted, opening, playing, Clip, Started, clipIn, startIn, stopIn, switchIn, pointIn, gathered}
 use Rattle.claims.specs.LongRun.{startsInTime, OnlyBlocks}

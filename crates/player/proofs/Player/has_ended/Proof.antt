@@ -3,7 +3,7 @@ use mathlib.Core.Path.{_≡_, sym, _∙_}
 use mathlib.Core.Bool.{true, false, _&&_, _||_}
 use lib.Ieee.{Float, lt, le}
 use Rattle.player.specs.declared.Player.{Player}
-use Rattle.player.specs.Seconds.{none, blockEnd}
+use Rattle.seconds.specs.Seconds.{none, blockEnd}
 use Rattle.player.specs.Block.{clipSeconds, hasEnded}
 use borrow.Author.Needs.{needs}
 use Rattle.player.proofs.Player.has_ended.Statement.{statement}

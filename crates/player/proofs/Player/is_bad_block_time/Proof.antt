@@ -4,7 +4,7 @@ use mathlib.Core.Bool.{Bool, true, false, not, _&&_, _||_}
 use borrow.Author.Needs.{needs}
 use lib.Ieee.{Float, lt, le, ofBits}
 use lib.Ieee.Scale.{finite}
-use Rattle.player.specs.Seconds.{none}
+use Rattle.seconds.specs.Seconds.{none}
 use Rattle.player.specs.declared.Player.{Player}
 use Rattle.player.specs.Block.{latest, badBlockTime}
 use Rattle.player.proofs.Player.is_bad_block_time.Statement.{statement}

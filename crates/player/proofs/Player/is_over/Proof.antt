@@ -1,5 +1,5 @@
 -- `player::Player::is_over` meets its contract: at each `return`, the test that led there is rewritten with. Assumes nothing.
-use Rattle.player.proofs.Cases.{or-left}
+use Rattle.lists.specs.Cases.{or-left}
 use borrow.Author.Needs.{needs}
 use Rattle.player.proofs.Player.is_over.Statement.{statement}
 use Rattle.player.proofs.Player.is_over.Tie as tie

@@ -3,7 +3,7 @@ use mathlib.Core.Path.{_≡_, sym}
 use mathlib.Core.Bool.{true, false}
 use lib.Ieee.{lt, le}
 use Rattle.player.specs.declared.Player.{Player}
-use Rattle.player.specs.Seconds.{none}
+use Rattle.seconds.specs.Seconds.{none}
 use Rattle.player.specs.Block.{ownLoop}
 use Rattle.player.proofs.Player.own_loop.Statement.{statement}
 use Rattle.player.proofs.Player.own_loop.Tie as tie

@@ -1,0 +1,2 @@
+-- The aligned block: its frames, and the position after it.
+pub mod Aligned
