@@ -15,7 +15,8 @@ use Rattle.buffer.specs.Limits.{duration}
 use Rattle.seconds.specs.Seconds.{context, inClip, none, never, one, blockSeconds, blockEnd, instant}
 use Rattle.player.specs.Record.{shapeOf, loopOf, renderOf, moved}
 use Rattle.aligned.specs.Aligned.{firstFrame, endsWithin, alignedSample, lastWrap, alignedPosition}
-use Rattle.sub_sample.specs.SubSample.{headAt, isIdle, infoOfSample, sampleOf}
+use Rattle.sub_sample.specs.SubSample.{headAt, isIdle, infoOfSample}
+use Rattle.interpolated.specs.Interpolated.{sampleOf}
 use Rattle.sub_sample.specs.declared.Playhead.{Playhead}
 use Rattle.buffer.specs.Channels.{channel}
 use Rattle.player.specs.Block.{Plan, silent, idle, startAt, isAligned, hasEnded, turnsOver, alignedPlan, settings, firstHead, subSamplePlan, plan}

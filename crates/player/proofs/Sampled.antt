@@ -9,8 +9,10 @@ use Rattle.buffer.specs.Channels.{channel}
 use Rattle.sub_sample.specs.declared.Settings.{Settings}
 use Rattle.sub_sample.specs.declared.Playhead.{Playhead}
 use Rattle.sub_sample.specs.declared.Infos.{Infos}
-use Rattle.sub_sample.specs.SubSample.{infoOfSample, headAt, sampleOf}
-use Rattle.sub_sample.specs.Infos.{infoIn, infosOf, sampleBy}
+use Rattle.sub_sample.specs.SubSample.{infoOfSample, headAt}
+use Rattle.interpolated.specs.Interpolated.{sampleOf}
+use Rattle.sub_sample.specs.Infos.{infoIn, infosOf}
+use Rattle.interpolated.specs.Interpolated.{sampleBy}
 use Rattle.player.specs.Block.{written}
 
 -- by two functions that agree below the block's length

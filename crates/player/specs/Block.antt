@@ -17,7 +17,8 @@ use Rattle.seconds.specs.Seconds.{context, inClip, never, none, one, dt, blockS
 use Rattle.player.specs.Record.{renderOf, moved}
 use Rattle.player.specs.Reports.{reportFrom}
 use Rattle.aligned.specs.Aligned.{firstFrame, endsWithin, alignedSample, lastWrap, alignedPosition}
-use Rattle.sub_sample.specs.SubSample.{headOf, headAt, infoOfSample, sampleOf}
+use Rattle.sub_sample.specs.SubSample.{headOf, headAt, infoOfSample}
+use Rattle.interpolated.specs.Interpolated.{sampleOf}
 use Rattle.player.specs.declared.Player.{Player}
 use Rattle.player.specs.declared.RenderState.{RenderState}
 use Rattle.sub_sample.specs.declared.Settings.{Settings}

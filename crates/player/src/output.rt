@@ -3,7 +3,7 @@ ghost use mathlib.Core.Path.{_≡_};
 ghost use Prim.Native.Nat.{_*_, _≤_};
 ghost use lib.ListN.{length};
 ghost use Rattle.aligned.specs.Aligned.{alignedSample};
-ghost use Rattle.sub_sample.specs.Infos.{sampleBy};
+ghost use Rattle.interpolated.specs.Interpolated.{sampleBy};
 ghost use Rattle.player.specs.Block.{written};
 use sub_sample::Settings;
 
@@ -47,7 +47,7 @@ pub(crate) fn write_interpolated<'a>(
     while c < count {
         let a = 128 * c;
         let b = frames * c;
-        sub_sample::write_channel(
+        interpolated::write_channel(
             &mut out[a..a + 128],
             &samples[b..b + frames],
             s,

@@ -1,12 +1,8 @@
 -- What the samples of a sub-sample block play, in three arrays: a frame, a fraction and a present flag for each
 -- (document 01, 'From shared handles to lent frames'). Definitions only.
-use mathlib.Core.Bool.{Bool, false}
-use mathlib.Core.List.{List}
 use Prim.Native.Nat.{ℕ}
-use lib.ListN.{getD}
-use lib.Ieee.{Float, nan}
 use Rattle.lists.specs.Table.{table}
-use Rattle.sub_sample.specs.SubSample.{infoOf, infoOfSample, headAt, sampleOf}
+use Rattle.sub_sample.specs.SubSample.{infoOfSample, headAt}
 use Rattle.sub_sample.specs.declared.Settings.{Settings}
 use Rattle.sub_sample.specs.declared.Playhead.{Playhead}
 use Rattle.sub_sample.specs.declared.PlaybackInfo.{PlaybackInfo}
@@ -22,7 +18,3 @@ infosOf n s h = record {
   fraction = table n (λ i. infoIn s h i .k);
   present = table n (λ i. infoIn s h i .present);
 }
-
--- sample i of a channel by the arrays
-unfoldable pub sampleBy : Settings → List ℕ → List Float → List Bool → List ℕ → ℕ → ℕ
-sampleBy s frame fraction present channel i = sampleOf s channel (infoOf (getD present i false) (getD frame i 0) (getD fraction i nan))

@@ -1,10 +1,9 @@
-// The sub-sample block of one channel: where the playhead stands for each sample, what the sample
-// plays, and its bits from the channel's frames.
-mod interpolated;
+// The sub-sample block before any frame is read: where the playhead stands for each sample, and which
+// frame the sample plays.
+mod filling;
 mod stepping;
 
-pub use interpolated::fill_infos;
-pub use interpolated::write_channel;
+pub use filling::fill_infos;
 use seconds::BufferSeconds;
 use seconds::ContextSeconds;
 use seconds::FrameNumber;
@@ -41,12 +40,6 @@ pub struct PlaybackInfo {
     pub present: bool,
     pub prev_frame_index: FrameNumber,
     pub k: f64,
-}
-
-// The samples between which a sample lies.
-pub struct Neighbours {
-    pub prev_sample: f64,
-    pub next_sample: f64,
 }
 
 // A `PlaybackInfo` for each sample of a block.

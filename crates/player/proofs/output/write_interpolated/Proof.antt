@@ -7,7 +7,7 @@ use Rattle.lists.specs.Rows.{row-fits}
 use Rattle.lists.specs.Table.{filled-end}
 use Rattle.player.specs.Block.{written}
 use Rattle.player.proofs.Written.{turn, length-written}
-use Rattle.sub_sample.specs.Infos.{sampleBy}
+use Rattle.interpolated.specs.Interpolated.{sampleBy}
 use Rattle.player.proofs.Written.{part-length}
 use borrow.Author.Needs.{needs}
 use Rattle.player.proofs.output.write_interpolated.Statement.{statement}

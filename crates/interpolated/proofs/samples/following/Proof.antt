@@ -1,4 +1,4 @@
--- `sub_sample::interpolated::following` meets its contract: each case is one law. Assumes nothing.
+-- `interpolated::samples::following` meets its contract: each case is one law. Assumes nothing.
 use mathlib.Core.Path.{_≡_, sym}
 use mathlib.Core.Bool.{true, false}
 use Prim.Native.Nat.{ℕ, _+_, _-_, _≤_, _<_}
@@ -8,11 +8,11 @@ use lib.ListN.{getD}
 use lib.Ieee.{Float}
 use native.Mathlib.Omega.{arith}
 use Rattle.rounding.specs.Rounding.{widen}
 use Rattle.sub_sample.specs.declared.Settings.{Settings}
-use Rattle.sub_sample.specs.SubSample.{loopFrame, extrapolated, following}
+use Rattle.interpolated.specs.Interpolated.{loopFrame, extrapolated, following}
 use borrow.Author.Needs.{needs}
-use Rattle.sub_sample.proofs.interpolated.following.Statement.{statement}
-use Rattle.sub_sample.proofs.interpolated.following.Tie as tie
+use Rattle.interpolated.proofs.samples.following.Statement.{statement}
+use Rattle.interpolated.proofs.samples.following.Tie as tie
 
 module _ (s : Settings) (channel : List ℕ) (frame : ℕ) (k : Float) {last : ℕ} (one : last ≡ s .«buffer_length» - 1) where
   inside : frame < last → following s channel frame k ≡ widen (getD channel (frame + 1) 0)

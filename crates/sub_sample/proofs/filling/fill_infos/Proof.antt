@@ -1,4 +1,4 @@
--- `sub_sample::interpolated::fill_infos` meets its contract. The invariant: the playhead is the one before sample i, and the first i entries of each array are filled. Assumes nothing.
+-- `sub_sample::filling::fill_infos` meets its contract. The invariant: the playhead is the one before sample i, and the first i entries of each array are filled. Assumes nothing.
 use mathlib.Core.Path.{_≡_, refl, ap, _∙_}
 use Prim.Native.Nat.{ℕ, _+_, _-_, _≤_}
 use native.Mathlib.Omega.{arith}
@@ -10,8 +10,8 @@ use Rattle.sub_sample.specs.declared.PlaybackInfo.{PlaybackInfo}
 use Rattle.sub_sample.specs.SubSample.{headAt, stepped, infoOfSample}
 use Rattle.sub_sample.specs.Infos.{infoIn}
 use borrow.Author.Needs.{needs}
-use Rattle.sub_sample.proofs.interpolated.fill_infos.Statement.{statement}
-use Rattle.sub_sample.proofs.interpolated.fill_infos.Tie as tie
+use Rattle.sub_sample.proofs.filling.fill_infos.Statement.{statement}
+use Rattle.sub_sample.proofs.filling.fill_infos.Tie as tie
 
 -- on to the next sample
 more : (s : Settings) (h head next : Playhead) (i : ℕ) → head ≡ headAt s h i → next ≡ stepped s i head → next ≡ headAt s h (i + 1)

@@ -1,10 +1,10 @@
--- `sub_sample::interpolated::extrapolated` meets its contract: at each `return`, the tests that led there and what the callees ensure are rewritten with. Assumes nothing.
+-- `interpolated::samples::extrapolated` meets its contract: at each `return`, the tests that led there and what the callees ensure are rewritten with. Assumes nothing.
 use mathlib.Core.Path.{sym}
 use borrow.Author.Tests.{eq-eqb, ne-eqb}
 use borrow.Author.Needs.{needs}
-use Rattle.sub_sample.specs.SubSample.{extrapolated}
-use Rattle.sub_sample.proofs.interpolated.extrapolated.Statement.{statement}
-use Rattle.sub_sample.proofs.interpolated.extrapolated.Tie as tie
+use Rattle.interpolated.specs.Interpolated.{extrapolated}
+use Rattle.interpolated.proofs.samples.extrapolated.Statement.{statement}
+use Rattle.interpolated.proofs.samples.extrapolated.Tie as tie
 
 near-requires : tie.Need-near-requires
 near-requires c κs = search needs

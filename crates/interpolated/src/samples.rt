@@ -1,20 +1,13 @@
-// A sub-sample block's samples: what each plays, and its bits from a channel's frames.
+// The bits of a sample between two frames of a channel, and a channel's part of the block.
 ghost use mathlib.Core.Path.{_≡_};
-ghost use Prim.Native.Nat.{_+_, _*_, _-_, _≤_, min};
+ghost use Prim.Native.Nat.{_+_, _-_, min};
 ghost use mathlib.Core.Bool.{cond};
 ghost use lib.ListN.{length, getD};
 ghost use lib.Ieee.{binary64, eq, toUnsigned};
 ghost use Rattle.rounding.specs.Rounding.{floor, widen};
 ghost use Rattle.lists.specs.Table.{filled};
-ghost use Rattle.sub_sample.specs.SubSample.{headAt, loopFrame, extrapolated, following, sampleOf};
-ghost use Rattle.sub_sample.specs.Infos.{infosOf, sampleBy};
-use super::Filled;
-use super::Infos;
+ghost use Rattle.interpolated.specs.Interpolated.{loopFrame, extrapolated, following, sampleOf, sampleBy};
 use super::Neighbours;
-use super::PlaybackInfo;
-use super::Playhead;
-use super::Settings;
-use super::stepping::step;
 use frames::frame_or_zero;
 use frames::smaller;
 use rounding::NEAR_TOLERANCE;
@@ -24,31 +17,8 @@ use rounding::near;
 use rounding::truncate;
 use rounding::widen;
 use seconds::FrameNumber;
-
-// What each sample of a block plays, from the playhead `h` on.
-pub fn fill_infos(s: Settings, h: Playhead) -> Filled
-    ensures { λ r. ⌜ (r .infos ≡ infosOf 128 s h) × (r .head ≡ headAt s h 128) ⌝ }
-{
-    let mut head = h;
-    let mut frame = [0usize; 128];
-    let mut fraction = [0.0f64; 128];
-    let mut present = [false; 128];
-    let mut i = 0usize;
-    while i < 128 {
-        let next = step(s, i, head);
-        frame[i] = next.info.prev_frame_index.0;
-        fraction[i] = next.info.k;
-        present[i] = next.info.present;
-        head = next.head;
-        i += 1;
-    }
-    let infos = Infos {
-        frame,
-        fraction,
-        present,
-    };
-    Filled { infos, head }
-}
+use sub_sample::PlaybackInfo;
+use sub_sample::Settings;
 
 // A frame as an f64.
 fn frame_at(channel: &[u32], frame: usize) -> f64

@@ -1,17 +1,17 @@
--- `sub_sample::interpolated::sample_of` meets its contract: a sample that plays is one law. Assumes nothing.
+-- `interpolated::samples::sample_of` meets its contract: a sample that plays is one law. Assumes nothing.
 use mathlib.Core.Path.{_≡_, refl, sym}
 use mathlib.Core.Bool.{true}
 use Prim.Native.Nat.{ℕ}
 use mathlib.Core.List.{List}
 use lib.ListN.{getD}
 use Rattle.rounding.specs.Rounding.{widen}
 use Rattle.sub_sample.specs.declared.Settings.{Settings}
 use Rattle.sub_sample.specs.declared.PlaybackInfo.{PlaybackInfo}
-use Rattle.sub_sample.specs.SubSample.{following, between, sampleOf}
+use Rattle.interpolated.specs.Interpolated.{following, between, sampleOf}
 use Rattle.lists.specs.Cases.{left}
 use borrow.Author.Needs.{needs}
-use Rattle.sub_sample.proofs.interpolated.sample_of.Statement.{statement}
-use Rattle.sub_sample.proofs.interpolated.sample_of.Tie as tie
+use Rattle.interpolated.proofs.samples.sample_of.Statement.{statement}
+use Rattle.interpolated.proofs.samples.sample_of.Tie as tie
 
 plays : (s : Settings) (channel : List ℕ) (info : PlaybackInfo) → info .present ≡ true
     → let frame = info .«prev_frame_index» .0 in

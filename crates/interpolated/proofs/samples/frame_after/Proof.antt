@@ -1,4 +1,4 @@
--- `sub_sample::interpolated::frame_after` meets its contract: the sum is made only below `last`. Assumes nothing.
+-- `interpolated::samples::frame_after` meets its contract: the sum is made only below `last`. Assumes nothing.
 use mathlib.Core.Path.{_≡_}
 use mathlib.Core.Bool.{Bool, true, false, cond}
 use Prim.Native.Nat.{ℕ, _+_, _≤_, _<_, min}
@@ -6,8 +6,8 @@ use native.Mathlib.Omega.{arith}
 use lib.Ieee.{binary64, eq}
 use Rattle.rounding.specs.Rounding.{floor}
 use borrow.Author.Needs.{needs}
-use Rattle.sub_sample.proofs.interpolated.frame_after.Statement.{statement}
-use Rattle.sub_sample.proofs.interpolated.frame_after.Tie as tie
+use Rattle.interpolated.proofs.samples.frame_after.Statement.{statement}
+use Rattle.interpolated.proofs.samples.frame_after.Tie as tie
 
 cut : (t : Bool) (a last : ℕ) → last ≤ a → last ≡ min (cond t a (a + 1)) last
 cut true a last h = omega arith

@@ -1,15 +1,15 @@
--- `sub_sample::interpolated::loop_frame` meets its contract: each direction is one law. Assumes nothing.
+-- `interpolated::samples::loop_frame` meets its contract: each direction is one law. Assumes nothing.
 use mathlib.Core.Path.{_≡_, sym}
 use mathlib.Core.Bool.{true, false, cond}
 use Prim.Native.Nat.{_+_, _-_, min}
 use lib.Ieee.{binary64, mul, eq, le, toUnsigned}
 use Rattle.rounding.specs.Rounding.{floor}
 use Rattle.sub_sample.specs.declared.Settings.{Settings}
 use Rattle.seconds.specs.Seconds.{none}
-use Rattle.sub_sample.specs.SubSample.{loopFrame}
+use Rattle.interpolated.specs.Interpolated.{loopFrame}
 use borrow.Author.Needs.{needs}
-use Rattle.sub_sample.proofs.interpolated.loop_frame.Statement.{statement}
-use Rattle.sub_sample.proofs.interpolated.loop_frame.Tie as tie
+use Rattle.interpolated.proofs.samples.loop_frame.Statement.{statement}
+use Rattle.interpolated.proofs.samples.loop_frame.Tie as tie
 
 module _ (s : Settings) where
   forwards : le none (s .«playback_rate») ≡ true

@@ -1,7 +1,7 @@
--- `sub_sample::interpolated::frame_at` meets its contract: at each `return`, the tests that led there and what the callees ensure are rewritten with. Assumes nothing.
+-- `interpolated::samples::frame_at` meets its contract: at each `return`, the tests that led there and what the callees ensure are rewritten with. Assumes nothing.
 use borrow.Author.Needs.{needs}
-use Rattle.sub_sample.proofs.interpolated.frame_at.Statement.{statement}
-use Rattle.sub_sample.proofs.interpolated.frame_at.Tie as tie
+use Rattle.interpolated.proofs.samples.frame_at.Statement.{statement}
+use Rattle.interpolated.proofs.samples.frame_at.Tie as tie
 
 frame-or-zero-requires : tie.Need-frame-or-zero-requires
 frame-or-zero-requires c κs = search needs

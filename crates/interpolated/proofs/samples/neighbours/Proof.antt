@@ -1,4 +1,4 @@
--- `sub_sample::interpolated::neighbours` meets its contract: before the last frame, the next sample is the next frame. Assumes nothing.
+-- `interpolated::samples::neighbours` meets its contract: before the last frame, the next sample is the next frame. Assumes nothing.
 use mathlib.Core.Path.{_≡_, sym, _∙_}
 use Prim.Native.Nat.{ℕ, _+_, _-_, _<_, min}
 use native.Mathlib.Nat.{min-le-left}
@@ -8,11 +8,11 @@ use borrow.Author.Tests.{lt-ltb}
 use lib.Ieee.{Float}
 use lib.ListN.{getD}
 use Rattle.rounding.specs.Rounding.{widen}
 use Rattle.sub_sample.specs.declared.Settings.{Settings}
-use Rattle.sub_sample.specs.SubSample.{following}
+use Rattle.interpolated.specs.Interpolated.{following}
 use borrow.Author.Needs.{needs}
-use Rattle.sub_sample.proofs.interpolated.neighbours.Statement.{statement}
-use Rattle.sub_sample.proofs.interpolated.neighbours.Tie as tie
+use Rattle.interpolated.proofs.samples.neighbours.Statement.{statement}
+use Rattle.interpolated.proofs.samples.neighbours.Tie as tie
 
 inside : (s : Settings) (channel : List ℕ) (frame : ℕ) (k : Float) (m last : ℕ) → last ≡ min (s .«buffer_length») m - 1 → frame < last
     → following s channel frame k ≡ widen (getD channel (frame + 1) 0)

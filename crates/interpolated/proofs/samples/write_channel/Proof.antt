@@ -1,14 +1,14 @@
--- `sub_sample::interpolated::write_channel` meets its contract. The invariant: the first i samples are written. Assumes nothing.
+-- `interpolated::samples::write_channel` meets its contract. The invariant: the first i samples are written. Assumes nothing.
 use mathlib.Core.Path.{_≡_, refl, ap, _∙_}
 use mathlib.Core.List.{List}
 use Prim.Native.Nat.{ℕ, _-_, _≤_, min}
 use native.Mathlib.Omega.{arith}
 use lib.ListN.{length, length-set}
 use Rattle.lists.specs.Table.{filled, filled-none, filled-more}
-use Rattle.sub_sample.specs.Infos.{sampleBy}
+use Rattle.interpolated.specs.Interpolated.{sampleBy}
 use borrow.Author.Needs.{needs}
-use Rattle.sub_sample.proofs.interpolated.write_channel.Statement.{statement}
-use Rattle.sub_sample.proofs.interpolated.write_channel.Tie as tie
+use Rattle.interpolated.proofs.samples.write_channel.Statement.{statement}
+use Rattle.interpolated.proofs.samples.write_channel.Tie as tie
 
 -- the loop has reached its end
 done : (i n : ℕ) (f : ℕ → ℕ) (l m : List ℕ) → m ≡ filled i f l → i ≡ n → m ≡ filled n f l

@@ -1,0 +1,2 @@
+-- A sub-sample block's samples.
+pub mod Interpolated
