@@ -5,7 +5,8 @@ use Prim.Native.Nat.{ℕ, zero, suc, _+_, _-_, min}
 use lib.Dec.{ltb, eqb}
 use lib.ListN.{getD}
 use lib.Ieee.{Float, binary64, ofBits, add, sub, mul, lt, le, eq, toUnsigned}
-use Rattle.rounding.specs.Rounding.{whole, magnitude, floor, fma, widen, narrow, remEuclid}
+use Rattle.rounding.specs.Rounding.{whole, magnitude, floor, widen, narrow, remEuclid}
+use Rattle.fused.specs.Fused.{fma}
 use Rattle.player.specs.Near.{isNear, isNearZero}
 use Rattle.player.specs.Seconds.{context, inClip, none, one}
 use Rattle.player.specs.declared.Settings.{Settings}
