@@ -1,4 +1,4 @@
--- The f64 pattern of digits whose top one is the 64th, at a place in units of 2 ^ -2148: the laws of `Pattern.antt` at binary64, by where the place lies. Assumes nothing.
+-- The f64 pattern of digits whose top one is the 64th, at a place in units of 2 ^ -2148: the laws of `Pattern.antt` of `rounding` at binary64, by where the place lies. Assumes nothing.
 use mathlib.Core.Path.{_≡_, ap, _∙_, subst}
 use mathlib.Core.Logic.{inr}
 use mathlib.Core.Bool.{Bool, cond}
@@ -8,7 +8,7 @@ use native.Mathlib.Omega.{arith}
 use lib.Pow.{pow-mono}
 use lib.Ieee.{binary64, round, toBits}
 use lib.Ieee.Nearest.{closest}
-use Rattle.rounding.proofs.Pattern.{at-high, at-low, closest-zero}
+use Rattle.rounding.proofs.Pattern.{at-high, at-low, closest-far}
 
 abbrev pub pat : Bool → ℕ → ℕ → ℕ
 pat s h t = toBits binary64 (round binary64 s (h * 2 ^ t) (2 ^ 2148))
@@ -30,9 +30,4 @@ middle s h t hi p =
 
 -- less than half the smallest value
 pub tiny : (s : Bool) (h t : ℕ) → h < 2 ^ 64 → t < 1010 → pat s h t ≡ cond s (2 ^ 63) 0 + 0
-tiny s h t hi p =
-    let e = 1074 - t in
-    middle s h t hi (omega arith) ∙ ap (λ (x : ℕ). cond s (2 ^ 63) 0 + x) (closest-zero h (2 ^ e) (lt-of-lt-of-le (half h hi) (pow-mono {i = 65} {j = e} (omega arith))))
-  where
-    half : (h : ℕ) → h < 2 ^ 64 → h * 2 < 2 ^ 65
-    half h l = omega arith
+tiny s h t hi p = middle s h t hi (omega arith) ∙ ap (λ (x : ℕ). cond s (2 ^ 63) 0 + x) (closest-far h (1074 - t) hi (omega arith))
