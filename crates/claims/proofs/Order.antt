@@ -11,9 +11,8 @@ use lib.Ieee.Positive.{num, den, den-pos}
 use lib.Ieee.Exact.{HasValue}
 use lib.Ieee.Scale.{finite}
 use borrow.Author.Tests.{ltb-true, ltb-false, leb-true, leb-false, eqb-true, le-leb, lt-leb, lt-ltb, le-ltb, eq-eqb, ne-eqb}
-use Rattle.rounding.proofs.Compare.{lt-value, eq-value, le-or}
+use Rattle.rounding.proofs.Compare.{lt-value, eq-value, le-or, ltb-same}
 use Rattle.rounding.proofs.Sum.{and-true}
-use Rattle.rounding.proofs.Words.{ltb-same}
 
 -- ---- the scale: minus infinity is 0, ±a / D is N + 1 ± a, infinity is 2 * N + 2
 abbrev Point : Bool → ℕ → ℕ → ℕ → Type 0

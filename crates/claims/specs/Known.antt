@@ -7,6 +7,7 @@ use lib.IntN.{pos, negsuc}
 use lib.ListN.{length}
 use lib.Ieee.{Float, fin}
 use Rattle.rounding.specs.Known.{KnownRounding}
+use Rattle.fused.specs.Known.{KnownFused}
 use Rattle.buffer.specs.Known.{KnownBuffer}
 use Rattle.lists.specs.Table.{table}
 use Rattle.seconds.specs.Seconds.{none, never, one, blockEnd}
@@ -56,6 +57,7 @@ KnownPlayback = (sampleOfBlockOne true 3 ≡ 2 + 1) × (sampleOfBlockOne true 12
 -- ---- the table
 pub record KnownFrames : Type 0 where
   pub rounding : KnownRounding
+  pub fused : KnownFused
   pub buffers : KnownBuffer
   pub loopPoints : KnownLoopPoints
   pub playback : KnownPlayback

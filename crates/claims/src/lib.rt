@@ -14,10 +14,12 @@ pub fn premises_are_met()
     ensures { λ _. ⌜ Instances ⌝ }
 {}
 
-// Document 01's starred known frames. Those of rounding and of buffers are their crates' claims.
+// Document 01's starred known frames. Those of rounding, of the fused step and of buffers are their
+// crates' claims.
 pub fn known_frames()
     ensures { λ _. ⌜ KnownFrames ⌝ }
 {
     rounding::known_rounding();
+    fused::known_fused();
     buffer::known_buffer();
 }

@@ -5,7 +5,8 @@ use Prim.Native.Nat.{ℕ, _+_, _-_, min}
 use lib.Dec.{ltb, eqb}
 use lib.ListN.{getD}
 use lib.Ieee.{Float, nan, binary64, ofBits, sub, mul, le, eq, toUnsigned}
-use Rattle.rounding.specs.Rounding.{floor, fma, widen, narrow}
+use Rattle.rounding.specs.Rounding.{floor, widen, narrow}
+use Rattle.fused.specs.Fused.{fma}
 use Rattle.seconds.specs.Seconds.{none, one}
 use Rattle.sub_sample.specs.Near.{isNear}
 use Rattle.sub_sample.specs.SubSample.{infoOf}

@@ -10,9 +10,9 @@ ghost use Rattle.interpolated.specs.Interpolated.{loopFrame, extrapolate
 use super::Neighbours;
 use frames::frame_or_zero;
 use frames::smaller;
+use fused::fma_narrow;
 use rounding::NEAR_TOLERANCE;
 use rounding::floor;
-use rounding::fma_narrow;
 use rounding::near;
 use rounding::truncate;
 use rounding::widen;

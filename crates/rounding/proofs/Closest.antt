@@ -1,8 +1,8 @@
--- What `compare` says; and a fraction rounded to the nearest whole number (`closest`) is off by half at most.
+-- What `compare` says; and a fraction rounded to the nearest whole number (`closest`) is off by half at most, and a whole number not at all.
 -- Nothing here is about floats. Assumes nothing.
-use mathlib.Core.Path.{_≡_, refl, subst}
+use mathlib.Core.Path.{_≡_, refl, ap, _∙_, subst}
 use Prim.Native.Nat.{ℕ, _+_, _*_, _/_, _%_, _≤_, _<_, compare, Ordering, Ordering·lt, Ordering·eq, Ordering·gt}
-use native.Mathlib.Nat.{mod-lt, mul-le-mul-right, div-add-mod'}
+use native.Mathlib.Nat.{mod-lt, mod-one, mul-le-mul-right, div-add-mod', div-one}
 use native.Mathlib.Omega.{arith}
 use mathlib.Core.Bool.{not}
 use lib.Dec.{T, isLe, isEq, eqb, leb→le, nleb→lt, eqb→eq, eqb-refl}
@@ -52,3 +52,6 @@ pub closest-near : (n u : ℕ) → 0 < u → (2 * (closest n u * u) ≤ 2 * n + 
 closest-near n u U =
     subst (λ (x : ℕ). (2 * (closest n u * u) ≤ 2 * x + u) × (2 * x ≤ 2 * (closest n u * u) + u)) (div-add-mod' n u)
     (near (n / u) (n % u) u (compare (n % u * 2) u) (says (n % u * 2) u) (mod-lt n U))
+
+pub closest-one : (n : ℕ) → closest n 1 ≡ n
+closest-one n = ap (λ (x : ℕ). nearest x (compare (n % 1 * 2) 1)) (div-one n) ∙ ap (λ (x : ℕ). nearest n (compare (x * 2) 1)) (mod-one n)

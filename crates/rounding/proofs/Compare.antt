@@ -1,10 +1,10 @@
--- Comparisons by any fractions that two finite values equal. (Monotony of `round` is lib.Ieee.Order's `round-mono`.) Assumes nothing.
+-- Comparisons of numbers that say the same, and comparisons by any fractions that two finite values equal. (Monotony of `round` is lib.Ieee.Order's `round-mono`.) Assumes nothing.
 use mathlib.Core.Path.{_≡_, refl, sym, ap, ap₂, _∙_, subst}
 use Prim.Native.Nat.{ℕ, _+_, _*_, _≤_, _<_}
 use native.Mathlib.Nat.{add-comm, add-mul, zero-mul, le-of-eq, le-of-lt, le-trans, lt-of-le-of-lt, lt-of-lt-of-le, mul-pos, mul-le-mul-right, mul-lt-mul-of-pos-right, le-of-mul-le-mul-right, lt-of-mul-lt-mul-right, eq-of-mul-eq-mul-right}
 use native.Mathlib.Omega.{arith}
 use mathlib.Core.Bool.{Bool, true, false, not, _&&_, _||_, Bool·beq}
-use lib.Dec.{T, ltb, leb, eqb}
+use lib.Dec.{T, ltb, leb, eqb, ltb→lt, nltb→le}
 use lib.Ieee.{Float, nan, inf, fin, up, down, below, level, neg, lt, le, eq, isNan}
 use lib.Ieee.Exact.{HasValue}
 use lib.Ieee.Fits.{down-pos}
@@ -12,7 +12,14 @@ use borrow.Author.Tests.{lt-ltb, le-ltb, le-leb, lt-leb, eq-eqb, ne-eqb}
 use Rattle.rounding.specs.Near.{near}
 use Rattle.rounding.proofs.Operations.{first, second}
 use Rattle.rounding.proofs.Sum.{Order, order, less, more, none, and-true}
-use Rattle.rounding.proofs.Words.{ltb-same}
+
+-- ---- two comparisons that say the same
+pub ltb-same : (a b c d : ℕ) → (a < b → c < d) → (b ≤ a → d ≤ c) → ltb a b ≡ ltb c d
+ltb-same a b c d p q = go (ltb a b) (ltb→lt a b) (nltb→le a b)
+  where
+    go : (x : Bool) → (T x → a < b) → (T (not x) → b ≤ a) → x ≡ ltb c d
+    go true u w = sym (lt-ltb c d (p (u tt)))
+    go false u w = sym (le-ltb c d (q (w tt)))
 
 -- ---- x and y in proportion to a and b
 abbrev Alike : ℕ → ℕ → ℕ → ℕ → Type 0

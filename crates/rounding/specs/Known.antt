@@ -1,14 +1,15 @@
--- Document 01, 'Known frames': the starred ones about rounding, and the figures of 'Rounding', as one claim about the definitions.
+-- Document 01, 'Known frames': the starred ones about rounding but for that of the fused step (the crate `fused`), and the figures of 'Rounding',
+-- as one claim about the definitions.
 use mathlib.Core.Path.{_≡_}
 use mathlib.Core.Bool.{true, false}
 use Prim.Native.Nat.{ℕ, _+_, _-_, _^_}
 use lib.IntN.{pos, negsuc}
 use lib.Ieee.{Float, nan, fin, binary32, binary64}
 use Rattle.rounding.specs.Near.{nearTolerance, rateTolerance}
-use Rattle.rounding.specs.Rounding.{floor, roundAway, convert, narrow, fma}
+use Rattle.rounding.specs.Rounding.{floor, roundAway, convert, narrow}
 
 -- m / 2 ^ k, for a k of at least 1, and n
-abbrev over : ℕ → ℕ → Float
+abbrev pub over : ℕ → ℕ → Float
 over m k = fin false m (negsuc (k - 1))
 
 abbrev minusOver : ℕ → ℕ → Float
@@ -17,7 +18,7 @@ minusOver m k = fin true m (negsuc (k - 1))
 abbrev whole : ℕ → Float
 whole n = fin false n (pos 0)
 
-abbrev minusWhole : ℕ → Float
+abbrev pub minusWhole : ℕ → Float
 minusWhole n = fin true n (pos 0)
 
 unfoldable pub KnownRounding : Type 0
@@ -27,8 +28,6 @@ KnownRounding =
     × (roundAway binary64 (over 5 1) ≡ whole 3)
     × (roundAway binary64 (minusOver 5 1) ≡ minusWhole 3)
     × (roundAway binary64 (over (2 ^ 53 - 1) 54) ≡ whole 0)
-    -- (1 - 2 ^ -53) times (1 + 2 ^ -23) plus -1 is 2 ^ -23 - 2 ^ -53 - 2 ^ -76
-    × (fma binary64 (over (2 ^ 53 - 1) 53) (over (2 ^ 23 + 1) 23) (minusWhole 1) ≡ over (2 ^ 53 - 2 ^ 23 - 1) 76)
     -- f32 of 1 + 2 ^ -24 is 1; of 1 + 3 * 2 ^ -24 is 1 + 2 ^ -22
     × (convert binary32 (over (2 ^ 24 + 1) 24) ≡ whole 1)
     × (convert binary32 (over (2 ^ 24 + 3) 24) ≡ over (2 ^ 22 + 1) 22)

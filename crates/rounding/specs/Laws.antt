@@ -1,4 +1,5 @@
--- Document 01, 'What a caller may rely on', 4: facts about rounding, for a format f as a parameter, f32 or f64. A unit is the format's smallest value, 2 ^ -low f.
+-- Document 01, 'What a caller may rely on', 4: facts about rounding, for a format f as a parameter, f32 or f64.
+-- A unit is the format's smallest value, 2 ^ -low f.
 -- `HasValue x s a c` (lib.Ieee.Exact) says that x is the fraction a / c, negative where s is true.
 use mathlib.Core.Path.{_≡_}
 use mathlib.Core.Bool.{Bool, false}
@@ -41,10 +42,12 @@ pub record RoundingLaws : Type 0 where
   pub round-error : (f : Format) (a c : ℕ) → 0 < c → Normal f a c → Below f a c → Rounded f (round f false a c) a c
   pub add-error : (f : Format) (x y : Float) (a c b d : ℕ) → Are x y a c b d → Normal f (a * d + b * c) (c * d) → Below f (a * d + b * c) (c * d)
       → Rounded f (add f x y) (a * d + b * c) (c * d)
-  pub sub-error : (f : Format) (x y : Float) (a c b d : ℕ) → Are x y a c b d → b * c ≤ a * d → Normal f (a * d - b * c) (c * d) → Below f (a * d - b * c) (c * d)
-      → Rounded f (sub f x y) (a * d - b * c) (c * d)
-  pub mul-error : (f : Format) (x y : Float) (a c b d : ℕ) → Are x y a c b d → Normal f (a * b) (c * d) → Below f (a * b) (c * d) → Rounded f (mul f x y) (a * b) (c * d)
-  pub div-error : (f : Format) (x y : Float) (a c b d : ℕ) → Are x y a c b d → 0 < b → Normal f (a * d) (b * c) → Below f (a * d) (b * c) → Rounded f (div f x y) (a * d) (b * c)
+  pub sub-error : (f : Format) (x y : Float) (a c b d : ℕ) → Are x y a c b d → b * c ≤ a * d
+      → Normal f (a * d - b * c) (c * d) → Below f (a * d - b * c) (c * d) → Rounded f (sub f x y) (a * d - b * c) (c * d)
+  pub mul-error : (f : Format) (x y : Float) (a c b d : ℕ) → Are x y a c b d → Normal f (a * b) (c * d) → Below f (a * b) (c * d)
+      → Rounded f (mul f x y) (a * b) (c * d)
+  pub div-error : (f : Format) (x y : Float) (a c b d : ℕ) → Are x y a c b d → 0 < b → Normal f (a * d) (b * c) → Below f (a * d) (b * c)
+      → Rounded f (div f x y) (a * d) (b * c)
   -- rounding keeps the order
   pub monotone : (f : Format) (a c b d : ℕ) → 0 < c → 0 < d → a * d ≤ b * c → T (le (round f false a c) (round f false b d))
   -- a value of the format rounds to itself; whole numbers up to 2 ^ prec are such values
@@ -53,7 +56,7 @@ pub record RoundingLaws : Type 0 where
   -- a product with a power of two is exact, and so are a remainder, and the difference of values within a factor of 2 (Sterbenz)
   pub power : (f : Format) (x w : Float) (s : Bool) (a t : ℕ) → T (fits f x) → HasValue x s a (2 ^ low f) → HasValue w false (2 ^ t) 1 → a * 2 ^ t < overflow f
       → HasValue (mul f x w) s (a * 2 ^ t) (2 ^ low f)
-  pub remainder : (f : Format) (x y : Float) (s t : Bool) (a b : ℕ) → T (fits f x) → T (fits f y) → HasValue x s a (2 ^ low f) → HasValue y t b (2 ^ low f) → 0 < b
-      → HasValue (rem f x y) s (a % b) (2 ^ low f)
-  pub sterbenz : (f : Format) (x y : Float) (a b : ℕ) → T (fits f x) → T (fits f y) → HasValue x false a (2 ^ low f) → HasValue y false b (2 ^ low f) → b ≤ a → a ≤ 2 * b
-      → HasValue (sub f x y) false (a - b) (2 ^ low f)
+  pub remainder : (f : Format) (x y : Float) (s t : Bool) (a b : ℕ) → T (fits f x) → T (fits f y) → HasValue x s a (2 ^ low f) → HasValue y t b (2 ^ low f)
+      → 0 < b → HasValue (rem f x y) s (a % b) (2 ^ low f)
+  pub sterbenz : (f : Format) (x y : Float) (a b : ℕ) → T (fits f x) → T (fits f y) → HasValue x false a (2 ^ low f) → HasValue y false b (2 ^ low f)
+      → b ≤ a → a ≤ 2 * b → HasValue (sub f x y) false (a - b) (2 ^ low f)

@@ -1,10 +1,12 @@
--- Document 01, 'Rounding', from bits: what the functions of this crate compute, over the values of IEEE 754 as the logic has them (`lib.Ieee`). Definitions only.
--- `round f s a c` of `lib.Ieee` is the value of the format f nearest to a / c, a tie to the one whose last digit is even, with the sign s. `fin s m e` is m * 2 ^ e, which is m * up e / down e.
+-- Document 01, 'Rounding', from bits: what the functions of this crate compute, over the values of IEEE 754 as the logic has them (`lib.Ieee`).
+-- Definitions only; that of a * b + c, rounded once, stands in the crate `fused`.
+-- `round f s a c` of `lib.Ieee` is the value of the format f nearest to a / c, a tie to the one whose last digit is even, with the sign s.
+-- `fin s m e` is m * 2 ^ e, which is m * up e / down e.
 use Prim.Native.Nat.{ℕ, _+_, _-_, _*_, _/_}
-use mathlib.Core.Bool.{Bool, false, not, cond, Bool·beq}
+use mathlib.Core.Bool.{Bool, false, not, cond}
 use lib.Dec.{eqb}
 use lib.IntN.{pos}
-use lib.Ieee.{Float, nan, inf, fin, Format, binary32, binary64, ofInt, up, down, unlike, round, sum, add, rem, lt, ofBits, toBits, toUnsigned}
+use lib.Ieee.{Float, nan, inf, fin, Format, binary32, binary64, ofInt, up, down, round, add, rem, lt, ofBits, toBits, toUnsigned}
 
 -- x as a value of the format f
 unfoldable pub convert : Format → Float → Float
@@ -64,30 +66,8 @@ magnitude (fin s m e) = fin false m e
 unfoldable pub remEuclid : Format → Float → Float → Float
 remEuclid f a b = cond (lt (rem f a b) (ofBits f 0)) (add f (rem f a b) (magnitude b)) (rem f a b)
 
--- ---- a * b + c, rounded once
 -- finite, and not zero
 unfoldable pub regular : Float → Bool
 regular nan = false
 regular (inf s) = false
 regular (fin s m e) = not (eqb m 0)
-
--- ±p / q, exact, and c
-unfoldable pub plus : Format → Bool → ℕ → ℕ → Float → Float
-plus f s p q nan = nan
-plus f s p q (inf t) = inf t
-plus f s p q (fin t n d) = sum f s (p * down d) t (n * up d * q) (q * down d)
-
--- an infinity, and c
-unfoldable pub infPlus : Bool → Float → Float
-infPlus s nan = nan
-infPlus s (inf t) = cond (Bool·beq s t) (inf s) nan
-infPlus s (fin t n d) = inf s
-
-unfoldable pub fma : Format → Float → Float → Float → Float
-fma f nan b c = nan
-fma f (inf s) nan c = nan
-fma f (inf s) (inf t) c = infPlus (unlike s t) c
-fma f (inf s) (fin t n d) c = cond (eqb n 0) nan (infPlus (unlike s t) c)
-fma f (fin s m e) nan c = nan
-fma f (fin s m e) (inf t) c = cond (eqb m 0) nan (infPlus (unlike s t) c)
-fma f (fin s m e) (fin t n d) c = plus f (unlike s t) (m * up e * (n * up d)) (down e * down d) c

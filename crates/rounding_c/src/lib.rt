@@ -1,13 +1,14 @@
-// The functions of `rounding` for C, to be measured beside C's own (tools/bench_rounding).
+// The functions of `rounding` and `fused` for C, to be measured beside C's own (tools/bench_rounding).
 ghost use mathlib.Core.Path.{_≡_};
 ghost use lib.Ieee.{binary64};
-ghost use Rattle.rounding.specs.Rounding.{floor, fma, narrow, truncate};
+ghost use Rattle.fused.specs.Fused.{fma};
+ghost use Rattle.rounding.specs.Rounding.{floor, narrow, truncate};
 
 #[no_mangle]
 pub extern "C" fn rounding_fma(a: f64, b: f64, c: f64) -> f64
     ensures { λ r. ⌜ r ≡ fma binary64 a b c ⌝ }
 {
-    rounding::fma(a, b, c)
+    fused::fma(a, b, c)
 }
 
 #[no_mangle]

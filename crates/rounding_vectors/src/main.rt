@@ -1,4 +1,4 @@
-// Runs recorded vectors of rounding: what a processor answered (tools/rounding_vectors makes them).
+// Runs recorded vectors of `rounding` and `fused`: what a processor answered (tools/rounding_vectors makes them).
 // A line of standard input has 70 bytes: the operation, a digit; three operands and the answer, 16
 // hex digits each; a space before each, and the line's end.
 ghost use Prim.Native.Nat.{_+_, _<_, _≤_};
@@ -51,7 +51,7 @@ fn computed(operation: usize, a: u64, b: u64, c: u64) -> u64 {
     let y = rounding::from_pattern_f64(b);
     let z = rounding::from_pattern_f64(c);
     match operation {
-        0 => rounding::to_pattern_f64(rounding::fma(x, y, z)),
+        0 => rounding::to_pattern_f64(fused::fma(x, y, z)),
         1 => rounding::narrow(x) as u64,
         2 => rounding::to_pattern_f64(rounding::floor(x)),
         3 => rounding::to_pattern_f64(rounding::ceil(x)),
