@@ -8,6 +8,7 @@ use lib.ListN.{length}
 use lib.Ieee.{Float, fin}
 use Rattle.rounding.specs.Known.{KnownRounding}
 use Rattle.buffer.specs.Known.{KnownBuffer}
+use Rattle.reshape.specs.Known.{KnownReshape}
 use Rattle.lists.specs.Table.{table}
 use Rattle.player.specs.Seconds.{none, never, one, blockEnd}
 use Rattle.player.specs.Record.{fresh}
@@ -57,5 +58,6 @@ KnownPlayback = (sampleOfBlockOne true 3 ≡ 2 + 1) × (sampleOfBlockOne true 12
 pub record KnownFrames : Type 0 where
   pub rounding : KnownRounding
   pub buffers : KnownBuffer
+  pub reshaped : KnownReshape
   pub loopPoints : KnownLoopPoints
   pub playback : KnownPlayback

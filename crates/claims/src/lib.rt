@@ -20,4 +20,5 @@ pub fn known_frames()
 {
     rounding::known_rounding();
     buffer::known_buffer();
+    reshape::known_reshape();
 }

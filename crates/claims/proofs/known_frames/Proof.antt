@@ -1,4 +1,4 @@
--- `claims::known_frames` meets its contract: two parts are what the crates below claim, the others are computed. Assumes nothing.
+-- `claims::known_frames` meets its contract: three parts are what the crates below claim, the others are computed. Assumes nothing.
 use mathlib.Core.Path.{refl}
 use borrow.Author.Needs.{needs}
 use lib.Ieee.{ofBits, ofInt, round, sum, add, mul, div, rem, lt, le, eq, ne, neg, sub, toUnsigned}
@@ -29,8 +29,12 @@ known-rounding-requires c κs = search needs
 known-buffer-requires : tie.Need-known-buffer-requires
 known-buffer-requires c κs = search needs
 
+known-reshape-requires : tie.Need-known-reshape-requires
+known-reshape-requires c κs = search needs
+
 returns : tie.Need-returns
-returns c = record { rounding = c .before .known-rounding .ensures; buffers = c .known-buffer .ensures; loopPoints = loop-points; playback = playback }
+returns c =
+    record { rounding = c .before .before .known-rounding .ensures; buffers = c .before .known-buffer .ensures; reshaped = c .known-reshape .ensures; loopPoints = loop-points; playback = playback }
 
 pub known-frames-spec : {M : Type 1} → statement M
-known-frames-spec = tie.close (tie.spec known-rounding-requires known-buffer-requires returns)
+known-frames-spec = tie.close (tie.spec known-rounding-requires known-buffer-requires known-reshape-requires returns)
