@@ -1,9 +1,4 @@
--- The laws that the proofs of `buffer` share.
-mod Checks
+-- The laws that the proofs of `buffer` share; those on rows of checks serve the crates above it too.
+pub mod Checks
 mod Accepted
 mod Moved
-mod Joins
-mod Results
-mod Cuts
-mod Partings
-mod Conversions

@@ -1,13 +1,7 @@
--- The answers of the calls in document 01's terms: for each case of an enum the paper's refusal number, or the values.
+-- An answer in document 01's terms, the paper's refusal number or the values, and what it is for each case of a copy's enum.
 use Prim.Native.Nat.{ℕ}
-use mathlib.Core.List.{List}
-use Rattle.buffer.specs.declared.Shape.{Shape}
 use Rattle.buffer.specs.declared.Copied.{Copied}
 use Rattle.buffer.specs.declared.Copied.the-variants as copied
-use Rattle.buffer.specs.declared.Made.{Made}
-use Rattle.buffer.specs.declared.Made.the-variants as made
-use Rattle.buffer.specs.declared.Parted.{Parted}
-use Rattle.buffer.specs.declared.Parted.the-variants as parted
 
 -- values, or a refusal of the table
 pub data Answer (A : Type 0) : Type 0 where
@@ -18,18 +12,3 @@ pub data Answer (A : Type 0) : Type 0 where
 abbrev pub copyAnswer : Copied → Answer ℕ
 copyAnswer (copied.Frames n) = accepted n
 copyAnswer (copied.Refused number) = refusal number
-
--- extend and convert: the result's shape
-abbrev pub madeAnswer : Made → Answer Shape
-madeAnswer (made.Buffer shape) = accepted shape
-madeAnswer (made.Refused number) = refusal number
-
--- split: the shapes of the first part and of the rest
-abbrev pub partedAnswer : Parted → Answer (Shape × Shape)
-partedAnswer (parted.Buffers first rest) = accepted (first, rest)
-partedAnswer (parted.Refused number) = refusal number
-
--- a lent output holds the result's samples, and is unchanged where the call is refused
-abbrev pub stored : {A : Type 0} → Answer A → List ℕ → List ℕ → List ℕ
-stored (accepted values) samples out = samples
-stored (refusal number) samples out = out

@@ -1,20 +1,15 @@
 // Copies out of and into a channel, as the W3C Web Audio API has them, with the count returned.
 ghost use mathlib.Core.Path.{_≡_};
-ghost use Prim.Native.Nat.{_+_, _*_, min};
+ghost use Prim.Native.Nat.{_+_, _*_};
 ghost use lib.ListN.{length};
 ghost use Rattle.buffer.specs.Answers.{copyAnswer};
 ghost use Rattle.buffer.specs.Channels.{channel};
 ghost use Rattle.buffer.specs.Copies.{copied, copiedOut, copiedIn};
 use super::Copied;
-use super::frames::copy_frames;
 use super::limits::is_valid_shape;
 use super::refusals;
-
-fn smaller(a: usize, b: usize) -> usize
-    ensures { λ r. ⌜ r ≡ min a b ⌝ }
-{
-    if a < b { a } else { b }
-}
+use frames::copy_frames;
+use frames::smaller;
 
 // How many frames a copy moves, or its refusal.
 fn checked(

@@ -2,7 +2,7 @@
 // that the check lists it by its name.
 ghost use Rattle.buffer.specs.Known.{KnownBuffer};
 
-// The known frames about copies and conversion.
+// The known frames about copies.
 pub fn known_buffer()
     ensures { λ _. ⌜ KnownBuffer ⌝ }
 {}

@@ -1,32 +1,21 @@
-// Buffers: limits, shapes, copies, and buffers made of others. A buffer's channels lie one after
-// another in one lent slice of f32 bit patterns. Each public call answers for every input: with its
-// result, or with the number of the refusal in document 01's table, and all lent memory unchanged.
-mod converting;
+// Buffers: limits, shapes and copies. A buffer's channels lie one after another in one lent slice of
+// f32 bit patterns. Each public call answers for every input: with its result, or with the number of
+// the refusal in document 01's table, and all lent memory unchanged.
 mod copies;
-mod fitting;
-mod frames;
-mod joining;
 mod known;
 mod limits;
-mod parting;
 pub mod refusals;
 
-pub use converting::convert;
-pub use converting::converted_shape;
 pub use copies::copy_from_channel;
 pub use copies::copy_from_channel_with_offset;
 pub use copies::copy_to_channel;
 pub use copies::copy_to_channel_with_offset;
-pub use joining::extend;
-pub use joining::extended_shape;
 pub use known::known_buffer;
 pub use limits::MAX_CHANNELS;
 pub use limits::MAX_FRAMES;
 pub use limits::duration;
 pub use limits::is_valid_sample_rate;
 pub use limits::is_valid_shape;
-pub use parting::split;
-pub use parting::split_shapes;
 
 // The channels of a buffer, the frames in each of them, and the sample rate.
 #[repr(C)]
@@ -39,17 +28,5 @@ pub struct Shape {
 // The answer of a copy: the count of frames that were moved.
 pub enum Copied {
     Frames(usize),
-    Refused(u32),
-}
-
-// The answer of a call that makes a buffer: the result's shape.
-pub enum Made {
-    Buffer(Shape),
-    Refused(u32),
-}
-
-// The answer of a split: the shapes of the first part and of the rest.
-pub enum Parted {
-    Buffers(Shape, Shape),
     Refused(u32),
 }

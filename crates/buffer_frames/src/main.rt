@@ -1,11 +1,11 @@
-// Runs the calls of `buffer` on small buffers, and the known frames of document 01 that are
-// executed. Each answer is a line: its values or X and the refusal's number, then the words that
-// the lent slice holds.
+// Runs the calls of `buffer` and `reshape` on small buffers, and the known frames of document 01
+// that are executed. Each answer is a line: its values or X and the refusal's number, then the words
+// that the lent slice holds.
 use buffer::Copied;
-use buffer::Made;
-use buffer::Parted;
 use buffer::Shape;
 use libc::STDOUT_FILENO;
+use reshape::Made;
+use reshape::Parted;
 
 fn print_word(word: u32) {
     io::write_all(STDOUT_FILENO, b" ");
@@ -114,7 +114,7 @@ fn run_joins() {
         rate: 48000.0,
     };
     let mut joined = [0u32; 6];
-    let made = buffer::extend(one, &[1, 2, 3, 4], two, &[5, 6], &mut joined);
+    let made = reshape::extend(one, &[1, 2, 3, 4], two, &[5, 6], &mut joined);
     print_made(made, &joined);
     let three = Shape {
         channels: 2,
@@ -123,7 +123,7 @@ fn run_joins() {
     };
     let mut first = [0u32; 2];
     let mut rest = [0u32; 4];
-    let parted = buffer::split(three, &joined, 1, &mut first, &mut rest);
+    let parted = reshape::split(three, &joined, 1, &mut first, &mut rest);
     print_parted(parted, &first, &rest);
 }
 
@@ -144,13 +144,13 @@ fn run_conversions() {
     let mut two = [0u32; 2];
     let mut three = [0u32; 3];
     let mut four = [0u32; 4];
-    let near = buffer::convert(at_48000, &samples, 48000.09375, &mut two);
+    let near = reshape::convert(at_48000, &samples, 48000.09375, &mut two);
     print_made(near, &two);
-    let apart = buffer::convert(at_48000, &samples, 48000.1015625, &mut three);
+    let apart = reshape::convert(at_48000, &samples, 48000.1015625, &mut three);
     print_made(apart, &three);
-    let twice = buffer::convert(at_24000, &samples, 48000.0, &mut four);
+    let twice = reshape::convert(at_24000, &samples, 48000.0, &mut four);
     print_made(twice, &four);
-    let single = buffer::convert(at_48000, &samples, 24000.0, &mut four);
+    let single = reshape::convert(at_48000, &samples, 24000.0, &mut four);
     print_made(single, &four);
 }
 
@@ -172,19 +172,19 @@ fn run_shapes() {
         frames: 147,
         rate: 44100.0,
     };
-    let unlike = buffer::extended_shape(most, 16_777_216, other, 16_777_216);
+    let unlike = reshape::extended_shape(most, 16_777_216, other, 16_777_216);
     print_made(unlike, &none);
-    let long = buffer::extended_shape(most, 16_777_216, most, 16_777_216);
+    let long = reshape::extended_shape(most, 16_777_216, most, 16_777_216);
     print_made(long, &none);
-    let longer = buffer::converted_shape(most, 16_777_216, 768000.0);
+    let longer = reshape::converted_shape(most, 16_777_216, 768000.0);
     print_made(longer, &none);
-    let faster = buffer::converted_shape(most, 16_777_216, 768000.0625);
+    let faster = reshape::converted_shape(most, 16_777_216, 768000.0625);
     print_made(faster, &none);
-    let counted = buffer::converted_shape(odd, 147, 48000.0);
+    let counted = reshape::converted_shape(odd, 147, 48000.0);
     print_made(counted, &none);
-    let short = buffer::converted_shape(odd, 146, 48000.0);
+    let short = reshape::converted_shape(odd, 146, 48000.0);
     print_made(short, &none);
-    let past = buffer::split_shapes(odd, 147, 148);
+    let past = reshape::split_shapes(odd, 147, 148);
     print_parted(past, &none, &none);
 }
 

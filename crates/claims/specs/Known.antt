@@ -9,6 +9,7 @@ use lib.Ieee.{Float, fin}
 use Rattle.rounding.specs.Known.{KnownRounding}
 use Rattle.fused.specs.Known.{KnownFused}
 use Rattle.buffer.specs.Known.{KnownBuffer}
+use Rattle.reshape.specs.Known.{KnownReshape}
 use Rattle.lists.specs.Table.{table}
 use Rattle.seconds.specs.Seconds.{none, never, one, blockEnd}
 use Rattle.player.specs.Record.{fresh}
@@ -59,5 +60,6 @@ pub record KnownFrames : Type 0 where
   pub rounding : KnownRounding
   pub fused : KnownFused
   pub buffers : KnownBuffer
+  pub reshaped : KnownReshape
   pub loopPoints : KnownLoopPoints
   pub playback : KnownPlayback

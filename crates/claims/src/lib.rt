@@ -22,4 +22,5 @@ pub fn known_frames()
     rounding::known_rounding();
     fused::known_fused();
     buffer::known_buffer();
+    reshape::known_reshape();
 }

@@ -2,7 +2,7 @@
 ghost use mathlib.Core.Path.{_≡_};
 ghost use Prim.Native.Nat.{min};
 ghost use lib.ListN.{length, getD};
-ghost use Rattle.lists.specs.Table.{table};
+ghost use Rattle.lists.specs.Table.{table, over};
 
 pub fn smaller(a: usize, b: usize) -> usize
     ensures { λ r. ⌜ r ≡ min a b ⌝ }
@@ -23,6 +23,18 @@ pub fn fill_zeros(part: &mut [u32])
     let mut i = 0;
     while i < part.len() {
         part[i] = 0;
+        i += 1;
+    }
+}
+
+// Stores the frames of `from` in `to` from its start on, as many as both have: `to` keeps its others.
+pub fn copy_frames(to: &mut [u32], from: &[u32])
+    ensures { λ _. ⌜ now (to .exit) ≡ over (now (from .entry)) (now (to .entry)) ⌝ }
+{
+    let n = smaller(to.len(), from.len());
+    let mut i = 0;
+    while i < n {
+        to[i] = from[i];
         i += 1;
     }
 }

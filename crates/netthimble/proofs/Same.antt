@@ -2,11 +2,12 @@
 use mathlib.Core.Path.{_≡_, ap}
 use mathlib.Core.List.{List}
 use Prim.Native.Nat.{ℕ}
-use Rattle.buffer.specs.Answers.{copyAnswer, madeAnswer, partedAnswer, stored}
+use Rattle.buffer.specs.Answers.{copyAnswer}
 use Rattle.buffer.specs.Copies.{copiedOut, copiedIn}
 use Rattle.buffer.specs.declared.Copied.{Copied}
-use Rattle.buffer.specs.declared.Made.{Made}
-use Rattle.buffer.specs.declared.Parted.{Parted}
+use Rattle.reshape.specs.Answers.{madeAnswer, partedAnswer, stored}
+use Rattle.reshape.specs.declared.Made.{Made}
+use Rattle.reshape.specs.declared.Parted.{Parted}
 use Rattle.clip.specs.Reading.{framesOut}
 use Rattle.clip.specs.declared.ClipRead.{ClipRead}
 

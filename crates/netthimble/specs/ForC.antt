@@ -6,10 +6,10 @@ use lib.Ieee.{binary32, ofBits}
 use Rattle.buffer.specs.declared.Shape.{Shape}
 use Rattle.buffer.specs.declared.Copied.{Copied}
 use Rattle.buffer.specs.declared.Copied.the-variants as copied
-use Rattle.buffer.specs.declared.Made.{Made}
-use Rattle.buffer.specs.declared.Made.the-variants as made
-use Rattle.buffer.specs.declared.Parted.{Parted}
-use Rattle.buffer.specs.declared.Parted.the-variants as parted
+use Rattle.reshape.specs.declared.Made.{Made}
+use Rattle.reshape.specs.declared.Made.the-variants as made
+use Rattle.reshape.specs.declared.Parted.{Parted}
+use Rattle.reshape.specs.declared.Parted.the-variants as parted
 use Rattle.clip.specs.declared.ClipRead.{ClipRead}
 use Rattle.clip.specs.declared.ClipRead.the-variants as clip
 use Rattle.seconds.specs.Seconds.{context, inClip, none}

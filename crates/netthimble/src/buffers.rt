@@ -2,21 +2,22 @@
 ghost use mathlib.Core.Path.{_≡_};
 ghost use Prim.Native.Nat.{_+_, _*_};
 ghost use lib.ListN.{length};
-ghost use Rattle.buffer.specs.Answers.{copyAnswer, madeAnswer, partedAnswer, stored};
+ghost use Rattle.buffer.specs.Answers.{copyAnswer};
 ghost use Rattle.buffer.specs.Channels.{channel};
 ghost use Rattle.buffer.specs.Copies.{copied, copiedOut, copiedIn};
-ghost use Rattle.buffer.specs.Fitting.{fitted};
-ghost use Rattle.buffer.specs.Joining.{extendedShape, joined};
-ghost use Rattle.buffer.specs.Parting.{splitShapes, bothFitted, firstPart, restPart};
-ghost use Rattle.buffer.specs.Converting.{convertedShape, convertedSamples};
+ghost use Rattle.reshape.specs.Answers.{madeAnswer, partedAnswer, stored};
+ghost use Rattle.reshape.specs.Fitting.{fitted};
+ghost use Rattle.reshape.specs.Joining.{extendedShape, joined};
+ghost use Rattle.reshape.specs.Parting.{splitShapes, bothFitted, firstPart, restPart};
+ghost use Rattle.reshape.specs.Converting.{convertedShape, convertedSamples};
 ghost use Rattle.netthimble.specs.ForC.{noShape, copyFor, madeFor, partedFor};
 use super::Copy;
 use super::Parts;
 use super::Shaped;
 use buffer::Copied;
-use buffer::Made;
-use buffer::Parted;
 use buffer::Shape;
+use reshape::Made;
+use reshape::Parted;
 
 // The shape of a refused answer.
 pub(crate) fn no_shape() -> Shape
@@ -111,7 +112,7 @@ pub extern "C" fn netthimble_copy_to_channel(
 pub extern "C" fn netthimble_extended_shape(a: Shape, m: usize, b: Shape, n: usize) -> Shaped
     ensures { λ r. ⌜ r ≡ madeFor (extendedShape a m b n) ⌝ }
 {
-    made_for(buffer::extended_shape(a, m, b, n))
+    made_for(reshape::extended_shape(a, m, b, n))
 }
 
 // Extends the buffer `a` of `samples` by the buffer `b` of `other`, into `out`.
@@ -126,7 +127,7 @@ pub extern "C" fn netthimble_extend(
     ensures { λ r. ⌜ (r ≡ madeFor (fitted (extendedShape a (length (now (samples .entry))) b (length (now (other .entry)))) (length (now (out .entry)))))
         × (now (out .exit) ≡ stored (madeAnswer (fitted (extendedShape a (length (now (samples .entry))) b (length (now (other .entry)))) (length (now (out .entry))))) (joined a (now (samples .entry)) b (now (other .entry))) (now (out .entry))) ⌝ }
 {
-    made_for(buffer::extend(a, samples, b, other, out))
+    made_for(reshape::extend(a, samples, b, other, out))
 }
 
 // The shapes of the first `point` frames of a buffer of `len` samples, and of the rest.
@@ -134,7 +135,7 @@ pub extern "C" fn netthimble_extend(
 pub extern "C" fn netthimble_split_shapes(shape: Shape, len: usize, point: usize) -> Parts
     ensures { λ r. ⌜ r ≡ partedFor (splitShapes shape len point) ⌝ }
 {
-    parted_for(buffer::split_shapes(shape, len, point))
+    parted_for(reshape::split_shapes(shape, len, point))
 }
 
 // Splits the buffer of `samples` at the frame `point`, into `first` and `rest`.
@@ -150,7 +151,7 @@ pub extern "C" fn netthimble_split(
         × (now (first .exit) ≡ stored (partedAnswer (bothFitted (splitShapes shape (length (now (samples .entry))) point) (length (now (first .entry))) (length (now (rest .entry))))) (firstPart shape (now (samples .entry)) point) (now (first .entry)))
         × (now (rest .exit) ≡ stored (partedAnswer (bothFitted (splitShapes shape (length (now (samples .entry))) point) (length (now (first .entry))) (length (now (rest .entry))))) (restPart shape (now (samples .entry)) point) (now (rest .entry))) ⌝ }
 {
-    parted_for(buffer::split(shape, samples, point, first, rest))
+    parted_for(reshape::split(shape, samples, point, first, rest))
 }
 
 // The shape of a buffer of `len` samples, converted to another rate.
@@ -158,7 +159,7 @@ pub extern "C" fn netthimble_split(
 pub extern "C" fn netthimble_converted_shape(shape: Shape, len: usize, rate: f32) -> Shaped
     ensures { λ r. ⌜ r ≡ madeFor (convertedShape shape len rate) ⌝ }
 {
-    made_for(buffer::converted_shape(shape, len, rate))
+    made_for(reshape::converted_shape(shape, len, rate))
 }
 
 // Converts the buffer of `samples` to another rate, into `out`.
@@ -172,5 +173,5 @@ pub extern "C" fn netthimble_convert(
     ensures { λ r. ⌜ (r ≡ madeFor (fitted (convertedShape shape (length (now (samples .entry))) rate) (length (now (out .entry)))))
         × (now (out .exit) ≡ stored (madeAnswer (fitted (convertedShape shape (length (now (samples .entry))) rate) (length (now (out .entry))))) (convertedSamples shape (now (samples .entry)) rate) (now (out .entry))) ⌝ }
 {
-    made_for(buffer::convert(shape, samples, rate, out))
+    made_for(reshape::convert(shape, samples, rate, out))
 }

@@ -16,9 +16,9 @@ use super::scan::hex;
 use super::scan::smaller;
 use super::scan::start;
 use buffer::Copied;
-use buffer::Made;
-use buffer::Parted;
 use buffer::Shape;
+use reshape::Made;
+use reshape::Parted;
 
 const UNTOUCHED: u32 = 0xdead_beef;
 
@@ -312,11 +312,11 @@ fn extended(
     out: &mut [u32],
 ) -> Machine {
     let n = smaller(size(a), words.len());
-    match buffer::extended_shape(a, n, b, words.len() - n) {
+    match reshape::extended_shape(a, n, b, words.len() - n) {
         Made::Refused(refusal) => m.refused(text, refusal),
         Made::Buffer(_) => {
             let k = smaller(words.len(), out.len());
-            let answer = buffer::extend(a, &words[..n], b, &words[n..], &mut out[..k]);
+            let answer = reshape::extend(a, &words[..n], b, &words[n..], &mut out[..k]);
             made(m, answer, b'J', text, &out[..k])
         }
     }
@@ -331,12 +331,12 @@ fn parted(
     first: &mut [u32],
     rest: &mut [u32],
 ) -> Machine {
-    match buffer::split_shapes(shape, words.len(), point) {
+    match reshape::split_shapes(shape, words.len(), point) {
         Parted::Refused(refusal) => m.refused(text, refusal),
         Parted::Buffers(a, b) => {
             let j = smaller(size(a), first.len());
             let k = smaller(size(b), rest.len());
-            match buffer::split(shape, words, point, &mut first[..j], &mut rest[..k]) {
+            match reshape::split(shape, words, point, &mut first[..j], &mut rest[..k]) {
                 Parted::Refused(refusal) => m.refused(text, refusal),
                 Parted::Buffers(c, d) => {
                     let at = put_buffer(text, m.at, b'V', c, &first[..j]);
@@ -356,14 +356,14 @@ fn converted(
     text: &mut [u8],
     out: &mut [u32],
 ) -> Machine {
-    match buffer::converted_shape(shape, words.len(), rate) {
+    match reshape::converted_shape(shape, words.len(), rate) {
         Made::Refused(refusal) => m.refused(text, refusal),
         Made::Buffer(result) => {
             let k = size(result);
             if k > out.len() {
                 return m.refused(text, 0);
             }
-            let answer = buffer::convert(shape, words, rate, &mut out[..k]);
+            let answer = reshape::convert(shape, words, rate, &mut out[..k]);
             made(m, answer, b'Q', text, &out[..k])
         }
     }

@@ -32,8 +32,19 @@ known-fused-requires c κs = search needs
 known-buffer-requires : tie.Need-known-buffer-requires
 known-buffer-requires c κs = search needs
 
+known-reshape-requires : tie.Need-known-reshape-requires
+known-reshape-requires c κs = search needs
+
 returns : tie.Need-returns
-returns c = record { rounding = c .before .before .known-rounding .ensures; fused = c .before .known-fused .ensures; buffers = c .known-buffer .ensures; loopPoints = loop-points; playback = playback }
+returns c =
+    record {
+      rounding = c .before .before .before .known-rounding .ensures;
+      fused = c .before .before .known-fused .ensures;
+      buffers = c .before .known-buffer .ensures;
+      reshaped = c .known-reshape .ensures;
+      loopPoints = loop-points;
+      playback = playback;
+    }
 
 pub known-frames-spec : {M : Type 1} → statement M
-known-frames-spec = tie.close (tie.spec known-rounding-requires known-fused-requires known-buffer-requires returns)
+known-frames-spec = tie.close (tie.spec known-rounding-requires known-fused-requires known-buffer-requires known-reshape-requires returns)

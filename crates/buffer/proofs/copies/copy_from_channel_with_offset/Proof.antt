@@ -1,7 +1,9 @@
--- `buffer::copies::copy_from_channel_with_offset` meets its contract: an accepted copy stays within the samples (`Accepted.antt`), and leaves what `Moved.antt` says. Assumes nothing.
+-- `buffer::copies::copy_from_channel_with_offset` meets its contract: an accepted copy stays within the samples (`Accepted.antt`), and leaves
+-- what `Moved.antt` says. Assumes nothing.
 use mathlib.Core.Path.{sym, _∙_}
 use native.Mathlib.Omega.{arith}
 use lib.Seq.{length-take-le}
+use Rattle.lists.specs.Table.{over-whole}
 use Rattle.buffer.proofs.Accepted.{accepted}
 use Rattle.buffer.proofs.Moved.{out-length, out-of}
 use borrow.Author.Needs.{needs}
@@ -75,9 +77,7 @@ part-copy-frames-end c =
     omega arith
 
 copy-frames-requires : tie.Need-copy-frames-requires
-copy-frames-requires c κs =
-    let a = accepted (sym (c .before .before .before .before .before .before .before .checked .ensures) ∙ c .before .before .before .before .before .answer .given .1) in
-    out-length _ _ _ _ (c .before .before .smaller .result) (c .before .before .before .before .before .answer .given .0 .0) (a .within) (omega arith) (omega arith)
+copy-frames-requires c κs = search needs
 
 enum-told : tie.Need-enum-told
 enum-told c = search needs
@@ -88,7 +88,12 @@ same-length c = search needs
 returns : tie.Need-returns
 returns c =
     let a = accepted (sym (c .before .before .before .before .before .before .before .before .before .before .checked .ensures) ∙ c .before .before .before .before .before .before .before .before .answer .given .1) in
-    (sym (c .before .before .before .before .before .before .before .before .answer .given .1) ∙ c .before .before .before .before .before .before .before .before .before .before .checked .ensures, out-of _ _ _ _ _ _ _ _ (a .within) (c .before .before .before .before .before .smaller .ensures) (c .before .before .copy-frames .ensures))
+    let n = c .before .before .before .before .before .before .before .before .answer .given .0 .0 in
+    let args = c .before .before .before .before .before .before .before .before .before .before .before .before .before .args in
+    let even = out-length (args .samples .now) (args .destination .now) _ _ (c .before .before .before .before .before .smaller .result) n (a .within) (omega arith) (omega arith) in (
+      sym (c .before .before .before .before .before .before .before .before .answer .given .1) ∙ c .before .before .before .before .before .before .before .before .before .before .checked .ensures,
+      out-of _ _ _ _ _ _ _ _ (a .within) (c .before .before .before .before .before .smaller .ensures) (c .before .before .copy-frames .ensures ∙ over-whole _ _ even),
+    )
 
 returns-2 : tie.Need-returns-2
 returns-2 c = search needs

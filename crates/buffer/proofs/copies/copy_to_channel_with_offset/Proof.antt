@@ -1,8 +1,10 @@
--- `buffer::copies::copy_to_channel_with_offset` meets its contract: an accepted copy stays within the samples (`Accepted.antt`), and leaves what `Moved.antt` says. Assumes nothing.
+-- `buffer::copies::copy_to_channel_with_offset` meets its contract: an accepted copy stays within the samples (`Accepted.antt`), and leaves
+-- what `Moved.antt` says. Assumes nothing.
 use mathlib.Core.Path.{sym, _∙_}
 use Prim.Native.Nat.{_+_, _*_}
 use native.Mathlib.Omega.{arith}
 use lib.Seq.{length-take-le}
+use Rattle.lists.specs.Table.{over-whole}
 use Rattle.buffer.proofs.Accepted.{accepted}
 use Rattle.buffer.proofs.Moved.{in-length, into}
 use borrow.Author.Needs.{needs}
@@ -55,10 +57,7 @@ slice-aggregate-copy-frames c =
     sym (length-take-le _ _ (omega arith))
 
 copy-frames-requires : tie.Need-copy-frames-requires
-copy-frames-requires c κs =
-    let a = accepted (sym (c .before .before .before .before .before .before .checked .ensures) ∙ c .before .before .before .before .answer .given .1) in
-    let at = c .before .before .before .before .before .before .before .before .before .args .frames * c .before .before .before .before .before .before .before .before .before .args .number + c .before .before .smaller .result in
-    in-length _ _ at (c .before .before .before .before .answer .given .0 .0) (omega arith) (omega arith)
+copy-frames-requires c κs = search needs
 
 enum-told : tie.Need-enum-told
 enum-told c = search needs
@@ -69,7 +68,12 @@ same-length c = search needs
 returns : tie.Need-returns
 returns c =
     let a = accepted (sym (c .before .before .before .before .before .before .before .before .before .checked .ensures) ∙ c .before .before .before .before .before .before .before .answer .given .1) in
-    (sym (c .before .before .before .before .before .before .before .answer .given .1) ∙ c .before .before .before .before .before .before .before .before .before .checked .ensures, into _ _ _ _ _ _ _ _ _ (c .before .before .before .before .before .smaller .ensures) (a .moved) (c .before .before .copy-frames .ensures))
+    let args = c .before .before .before .before .before .before .before .before .before .before .before .before .args in
+    let at = args .frames * args .number + c .before .before .before .before .before .smaller .result in
+    let even = in-length (args .samples .now) (args .source .now) at (c .before .before .before .before .before .before .before .answer .given .0 .0) (omega arith) (omega arith) in (
+      sym (c .before .before .before .before .before .before .before .answer .given .1) ∙ c .before .before .before .before .before .before .before .before .before .checked .ensures,
+      into _ _ _ _ _ _ _ _ _ (c .before .before .before .before .before .smaller .ensures) (a .moved) (c .before .before .copy-frames .ensures ∙ over-whole _ _ even),
+    )
 
 returns-2 : tie.Need-returns-2
 returns-2 c = search needs
