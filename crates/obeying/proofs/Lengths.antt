@@ -19,10 +19,10 @@ use Rattle.player.specs.declared.Handled.{Handled}
 use Rattle.player.specs.declared.Handled.the-variants as told
 use Rattle.player.specs.declared.Rendered.{Rendered}
 use Rattle.player.specs.declared.Rendered.the-variants as block
-use Rattle.session.specs.declared.Session.{Session}
-use Rattle.session.specs.declared.Answer.{Answer}
-use Rattle.session.specs.Obeying.{refused, afterMessage, sent, blockTime, afterBlock, playedWords, played, done, obeyed, answerOf}
-use Rattle.session.proofs.Accepted.{few-channels}
+use Rattle.obeying.specs.declared.Session.{Session}
+use Rattle.obeying.specs.declared.Answer.{Answer}
+use Rattle.obeying.specs.Obeying.{refused, afterMessage, sent, blockTime, afterBlock, playedWords, played, done, obeyed, answerOf}
+use Rattle.obeying.proofs.Accepted.{few-channels}
 
 -- ---- a text of each kind
 length-channels : (n c : ℕ) (words : List ℕ) → length (channelLines n c words) ≤ 9216 * n

@@ -1,13 +1,13 @@
--- `session::obeying::obey` meets its contract: there is room, or nothing is done. Assumes nothing.
+-- `obeying::obey` meets its contract: there is room, or nothing is done. Assumes nothing.
 use mathlib.Core.Path.{refl, ap}
 use borrow.Author.Tests.{le-leb, lt-leb}
-use Rattle.session.specs.Obeying.{answered, wordsAfter, outAfter}
-use Rattle.session.specs.declared.Obeyed.the-variants.{Line}
+use Rattle.obeying.specs.Obeying.{answered, wordsAfter, outAfter}
+use Rattle.obeying.specs.declared.Obeyed.the-variants.{Line}
 use native.Mathlib.Omega.{arith}
-use Rattle.session.proofs.Lengths.{answer-fits}
+use Rattle.obeying.proofs.Lengths.{answer-fits}
 use borrow.Author.Needs.{needs}
-use Rattle.session.proofs.obeying.obey.Statement.{statement}
-use Rattle.session.proofs.obeying.obey.Tie as tie
+use Rattle.obeying.proofs.obey.Statement.{statement}
+use Rattle.obeying.proofs.obey.Tie as tie
 
 returns : tie.Need-returns
 unfolding answered wordsAfter outAfter

@@ -1,21 +1,38 @@
-// What one line does.
+// What one line of `trial` does to the player and prints.
 ghost use mathlib.Core.Path.{_≡_};
 ghost use Prim.Native.Nat.{_≤_};
 ghost use lib.ListN.{length};
 ghost use lib.Seq.{sets};
 ghost use Rattle.text.specs.Lines.{blockRoom};
-ghost use Rattle.session.specs.Obeying.{refused, sent, counted, blockTime, playedWords, played, obeyed, hasRoom, answerOf, answered, wordsAfter, outAfter, written, bytesOf};
-use super::Answer;
-use super::Obeyed;
-use super::Session;
+ghost use Rattle.obeying.specs.Obeying.{refused, sent, counted, blockTime, playedWords, played, obeyed, hasRoom, answerOf, answered, wordsAfter, outAfter, written, bytesOf};
+ghost use Rattle.obeying.specs.Statement.{LateBlocks};
 use player::ControlMessage;
 use player::Handled;
+use player::Player;
 use player::Rendered;
 use rounding::from_pattern_f64;
 use rounding::whole;
 use text::BLOCK_ROOM;
 use text::Command;
 use text::Printed;
+
+// The player, and the number of the next `B` line.
+pub struct Session {
+    pub player: Player,
+    pub number: usize,
+}
+
+// The session that a line leaves, and how many bytes it printed.
+pub struct Answer {
+    pub session: Session,
+    pub printed: usize,
+}
+
+// A line is obeyed only where any block's text has room in the output.
+pub enum Obeyed {
+    Line(Answer),
+    NoRoom,
+}
 
 // The most `B` lines that are counted.
 const MOST_BLOCKS: usize = 35_184_372_088_832;
@@ -115,7 +132,7 @@ fn play(session: Session, samples: &[u32], words: &mut [u32], out: &mut [u8]) ->
 }
 
 // Obeys a line where there is room for what it prints.
-pub(crate) fn obey_line(
+fn obey_line(
     session: Session,
     line: &[u8],
     samples: &[u32],
@@ -167,3 +184,8 @@ pub fn obey(
     }
     Obeyed::Line(obey_line(session, line, samples, words, out))
 }
+
+// A block past the last number that is counted is refused with 13 at every allowed rate.
+pub fn late_blocks()
+    ensures { λ _. ⌜ LateBlocks ⌝ }
+{}

@@ -23,10 +23,10 @@ use Rattle.text.specs.declared.Command.{Command}
 use Rattle.text.specs.declared.Command.the-variants.{Start, Stop, LoopStart, LoopEnd, Loop, Block, Unknown}
 use Rattle.text.specs.declared.Printed.{Printed}
 use Rattle.text.specs.declared.Printed.the-variants.{Bytes, Refused}
-use Rattle.session.specs.declared.Session.{Session}
-use Rattle.session.specs.declared.Answer.{Answer}
-use Rattle.session.specs.declared.Obeyed.{Obeyed}
-use Rattle.session.specs.declared.Obeyed.the-variants.{Line, NoRoom}
+use Rattle.obeying.specs.declared.Session.{Session}
+use Rattle.obeying.specs.declared.Answer.{Answer}
+use Rattle.obeying.specs.declared.Obeyed.{Obeyed}
+use Rattle.obeying.specs.declared.Obeyed.the-variants.{Line, NoRoom}
 
 -- the player, and the number of the next `B` line
 abbrev pub sessionOf : Player → ℕ → Session

@@ -26,10 +26,10 @@ use Rattle.text.specs.declared.Printed.the-variants.{Bytes}
 use Rattle.text.specs.Commands.{command}
 use Rattle.text.specs.declared.Command.{Command}
 use Rattle.text.specs.declared.Command.the-variants.{Start, Stop, LoopStart, LoopEnd}
-use Rattle.session.specs.declared.Session.{Session}
-use Rattle.session.specs.declared.Answer.{Answer}
-use Rattle.session.specs.Obeying.{reply, sessionOf, refused, afterMessage, sent, counted, blockTime, afterBlock, playedWords, played, Outcome, outcome, seconds, done, obeyed, answerOf, bytesOf}
-use Rattle.session.proofs.Accepted.{few-channels, whole-output}
+use Rattle.obeying.specs.declared.Session.{Session}
+use Rattle.obeying.specs.declared.Answer.{Answer}
+use Rattle.obeying.specs.Obeying.{reply, sessionOf, refused, afterMessage, sent, counted, blockTime, afterBlock, playedWords, played, Outcome, outcome, seconds, done, obeyed, answerOf, bytesOf}
+use Rattle.obeying.proofs.Accepted.{few-channels, whole-output}
 
 abbrev answer : Session → ℕ → Answer
 answer s n = record { session = s; printed = n }

@@ -1,8 +1,8 @@
--- `session::obeying::block_time` meets its contract: its steps are the definition's. Assumes nothing.
-use Rattle.session.specs.Obeying.{blockTime}
+-- `obeying::block_time` meets its contract: its steps are the definition's. Assumes nothing.
+use Rattle.obeying.specs.Obeying.{blockTime}
 use borrow.Author.Needs.{needs}
-use Rattle.session.proofs.obeying.block_time.Statement.{statement}
-use Rattle.session.proofs.obeying.block_time.Tie as tie
+use Rattle.obeying.proofs.block_time.Statement.{statement}
+use Rattle.obeying.proofs.block_time.Tie as tie
 
 f32-to-f64-with-nan-requires : tie.Need-f32-to-f64-with-nan-requires
 f32-to-f64-with-nan-requires c κs = search needs

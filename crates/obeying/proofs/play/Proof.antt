@@ -1,9 +1,9 @@
--- `session::obeying::play` meets its contract: an accepted block's text has room, since it has at most 32 channels. Assumes nothing.
+-- `obeying::play` meets its contract: an accepted block's text has room, since it has at most 32 channels. Assumes nothing.
 use mathlib.Core.Path.{_∙_}
-use Rattle.session.proofs.Replies.{called, block-printed, block-turned-down}
+use Rattle.obeying.proofs.Replies.{called, block-printed, block-turned-down}
 use borrow.Author.Needs.{needs}
-use Rattle.session.proofs.obeying.play.Statement.{statement}
-use Rattle.session.proofs.obeying.play.Tie as tie
+use Rattle.obeying.proofs.play.Statement.{statement}
+use Rattle.obeying.proofs.play.Tie as tie
 
 counted-requires : tie.Need-counted-requires
 counted-requires c κs = search needs

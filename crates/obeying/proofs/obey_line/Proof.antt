@@ -1,10 +1,10 @@
--- `session::obeying::obey_line` meets its contract: in each arm the line is that command. Assumes nothing.
+-- `obeying::obey_line` meets its contract: in each arm the line is that command. Assumes nothing.
 use mathlib.Core.Path.{refl, sym, _∙_}
-use Rattle.session.specs.Obeying.{done}
-use Rattle.session.proofs.Replies.{line-as, start-line, stop-line, loop-start-line, loop-end-line}
+use Rattle.obeying.specs.Obeying.{done}
+use Rattle.obeying.proofs.Replies.{line-as, start-line, stop-line, loop-start-line, loop-end-line}
 use borrow.Author.Needs.{needs}
-use Rattle.session.proofs.obeying.obey_line.Statement.{statement}
-use Rattle.session.proofs.obeying.obey_line.Tie as tie
+use Rattle.obeying.proofs.obey_line.Statement.{statement}
+use Rattle.obeying.proofs.obey_line.Tie as tie
 
 read-command-requires : tie.Need-read-command-requires
 read-command-requires c κs = search needs

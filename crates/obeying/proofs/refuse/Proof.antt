@@ -1,8 +1,8 @@
--- `session::obeying::refuse` meets its contract: a refusal's text has room. Assumes nothing.
-use Rattle.session.proofs.Replies.{refusal-printed}
+-- `obeying::refuse` meets its contract: a refusal's text has room. Assumes nothing.
+use Rattle.obeying.proofs.Replies.{refusal-printed}
 use borrow.Author.Needs.{needs}
-use Rattle.session.proofs.obeying.refuse.Statement.{statement}
-use Rattle.session.proofs.obeying.refuse.Tie as tie
+use Rattle.obeying.proofs.refuse.Statement.{statement}
+use Rattle.obeying.proofs.refuse.Tie as tie
 
 refusal-text-requires : tie.Need-refusal-text-requires
 refusal-text-requires c κs = search needs

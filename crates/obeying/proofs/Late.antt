@@ -26,9 +26,9 @@ use Rattle.player.specs.Seconds.{none, one}
 use Rattle.player.specs.Block.{latest, badBlockTime, refusal, rendered}
 use Rattle.player.specs.declared.Player.{Player}
 use Rattle.player.specs.declared.Rendered.the-variants.{Refused}
-use Rattle.session.specs.declared.Session.{Session}
-use Rattle.session.specs.Obeying.{mostBlocks, counted, blockTime, afterBlock, played}
-use Rattle.session.specs.Statement.{LateBlocks}
+use Rattle.obeying.specs.declared.Session.{Session}
+use Rattle.obeying.specs.Obeying.{mostBlocks, counted, blockTime, afterBlock, played}
+use Rattle.obeying.specs.Statement.{LateBlocks}
 
 holds : (t : Bool) → T t → t ≡ true
 holds true h = refl

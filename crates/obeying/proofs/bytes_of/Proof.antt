@@ -1,8 +1,8 @@
--- `session::obeying::bytes_of` meets its contract. Assumes nothing.
-use Rattle.session.specs.Obeying.{bytesOf}
+-- `obeying::bytes_of` meets its contract. Assumes nothing.
+use Rattle.obeying.specs.Obeying.{bytesOf}
 use borrow.Author.Needs.{needs}
-use Rattle.session.proofs.obeying.bytes_of.Statement.{statement}
-use Rattle.session.proofs.obeying.bytes_of.Tie as tie
+use Rattle.obeying.proofs.bytes_of.Statement.{statement}
+use Rattle.obeying.proofs.bytes_of.Tie as tie
 
 enum-known-p : tie.Need-enum-known-p
 enum-known-p c = search needs

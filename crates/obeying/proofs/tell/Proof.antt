@@ -1,11 +1,11 @@
--- `session::obeying::tell` meets its contract: by what the message is answered. Assumes nothing.
+-- `obeying::tell` meets its contract: by what the message is answered. Assumes nothing.
 use mathlib.Core.Path.{sym, ap, _∙_}
 use lib.Seq.{sets}
-use Rattle.session.specs.Obeying.{Reply, answerOf}
-use Rattle.session.proofs.Replies.{message-done, message-refused}
+use Rattle.obeying.specs.Obeying.{Reply, answerOf}
+use Rattle.obeying.proofs.Replies.{message-done, message-refused}
 use borrow.Author.Needs.{needs}
-use Rattle.session.proofs.obeying.tell.Statement.{statement}
-use Rattle.session.proofs.obeying.tell.Tie as tie
+use Rattle.obeying.proofs.tell.Statement.{statement}
+use Rattle.obeying.proofs.tell.Tie as tie
 
 handle-control-message-requires : tie.Need-handle-control-message-requires
 handle-control-message-requires c κs = search needs
