@@ -9,7 +9,7 @@ ghost use Rattle.buffer.specs.Fitting.{fitted};
 ghost use Rattle.buffer.specs.Joining.{extendedShape, joined};
 ghost use Rattle.buffer.specs.Parting.{splitShapes, bothFitted, firstPart, restPart};
 ghost use Rattle.buffer.specs.Converting.{convertedShape, convertedSamples};
-ghost use Rattle.netthimble.specs.ForC.{noShape, copyFor, madeFor, partedFor};
+ghost use Rattle.netthimble.specs.ForC.{copyFor, madeFor, partedFor};
 use super::Copy;
 use super::Parts;
 use super::Shaped;
@@ -17,17 +17,7 @@ use buffer::Copied;
 use buffer::Made;
 use buffer::Parted;
 use buffer::Shape;
-
-// The shape of a refused answer.
-pub(crate) fn no_shape() -> Shape
-    ensures { λ r. ⌜ r ≡ noShape ⌝ }
-{
-    Shape {
-        channels: 0,
-        frames: 0,
-        rate: 0.0,
-    }
-}
+use lent::no_shape;
 
 fn copy_for(answer: Copied) -> Copy
     ensures { λ r. ⌜ r ≡ copyFor answer ⌝ }
