@@ -5,11 +5,11 @@ use mathlib.Core.List.{List}
 use Prim.Native.Nat.{ℕ, zero, suc, _+_, _*_, _≤_}
 use native.Mathlib.Omega.{arith}
 use lib.ListN.{length, take, drop, length-append, length-take}
-use Rattle.text.specs.Commands.{command}
+use Rattle.commands.specs.Commands.{command}
 use Rattle.text.specs.Lines.{channelLines, blockText, refusalText, blockRoom}
 use Rattle.text.proofs.Runs.{length-field, length-runs, length-block}
-use Rattle.text.specs.declared.Command.{Command}
-use Rattle.text.specs.declared.Command.the-variants.{Start, Stop, LoopStart, LoopEnd, Loop, Block, Unknown}
+use Rattle.commands.specs.declared.Command.{Command}
+use Rattle.commands.specs.declared.Command.the-variants.{Start, Stop, LoopStart, LoopEnd, Loop, Block, Unknown}
 use Rattle.player.specs.Seconds.{one}
 use Rattle.player.specs.Messages.{handled}
 use Rattle.player.specs.Block.{rendered}

@@ -23,9 +23,9 @@ use Rattle.player.specs.declared.Rendered.the-variants as block
 use Rattle.text.specs.Lines.{blockText, refusalText, blockRoom, fits, printed, printedOut}
 use Rattle.text.specs.declared.Printed.{Printed}
 use Rattle.text.specs.declared.Printed.the-variants.{Bytes}
-use Rattle.text.specs.Commands.{command}
-use Rattle.text.specs.declared.Command.{Command}
-use Rattle.text.specs.declared.Command.the-variants.{Start, Stop, LoopStart, LoopEnd}
+use Rattle.commands.specs.Commands.{command}
+use Rattle.commands.specs.declared.Command.{Command}
+use Rattle.commands.specs.declared.Command.the-variants.{Start, Stop, LoopStart, LoopEnd}
 use Rattle.obeying.specs.declared.Session.{Session}
 use Rattle.obeying.specs.declared.Answer.{Answer}
 use Rattle.obeying.specs.Obeying.{reply, sessionOf, refused, afterMessage, sent, counted, blockTime, afterBlock, playedWords, played, Outcome, outcome, seconds, done, obeyed, answerOf, bytesOf}

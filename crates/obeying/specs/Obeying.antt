@@ -17,10 +17,10 @@ use Rattle.player.specs.declared.Handled.{Handled}
 use Rattle.player.specs.declared.Handled.the-variants as told
 use Rattle.player.specs.declared.Rendered.{Rendered}
 use Rattle.player.specs.declared.Rendered.the-variants as block
-use Rattle.text.specs.Commands.{command}
+use Rattle.commands.specs.Commands.{command}
 use Rattle.text.specs.Lines.{blockText, refusalText, blockRoom}
-use Rattle.text.specs.declared.Command.{Command}
-use Rattle.text.specs.declared.Command.the-variants.{Start, Stop, LoopStart, LoopEnd, Loop, Block, Unknown}
+use Rattle.commands.specs.declared.Command.{Command}
+use Rattle.commands.specs.declared.Command.the-variants.{Start, Stop, LoopStart, LoopEnd, Loop, Block, Unknown}
 use Rattle.text.specs.declared.Printed.{Printed}
 use Rattle.text.specs.declared.Printed.the-variants.{Bytes, Refused}
 use Rattle.obeying.specs.declared.Session.{Session}

@@ -6,6 +6,7 @@ ghost use lib.Seq.{sets};
 ghost use Rattle.text.specs.Lines.{blockRoom};
 ghost use Rattle.obeying.specs.Obeying.{refused, sent, counted, blockTime, playedWords, played, obeyed, hasRoom, answerOf, answered, wordsAfter, outAfter, written, bytesOf};
 ghost use Rattle.obeying.specs.Statement.{LateBlocks};
+use commands::Command;
 use player::ControlMessage;
 use player::Handled;
 use player::Player;
@@ -13,7 +14,6 @@ use player::Rendered;
 use rounding::from_pattern_f64;
 use rounding::whole;
 use text::BLOCK_ROOM;
-use text::Command;
 use text::Printed;
 
 // The player, and the number of the next `B` line.
@@ -143,7 +143,7 @@ fn obey_line(
     ensures { λ r. ⌜ (let o = obeyed (now (samples .entry)) session (now (words .entry)) (now (line .entry)) in
         (r ≡ answerOf (o .reply)) × (now (words .exit) ≡ o .words) × (now (out .exit) ≡ sets (now (out .entry)) 0 (o .reply .text))) ⌝ }
 {
-    match text::read_command(line) {
+    match commands::read_command(line) {
         Command::Start(when, offset, duration) => tell(
             session,
             ControlMessage::Start(

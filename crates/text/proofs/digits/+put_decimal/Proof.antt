@@ -6,8 +6,8 @@ use native.Mathlib.Omega.{arith}
 use lib.ListN.{length, set, length-append, length-set}
 use lib.Seq.{sets}
 use borrow.Author.Needs.{needs}
-use Rattle.text.specs.Digits.{digit, decimalOf}
-use Rattle.text.proofs.OneDigit.{decimal-one, decimal-more, length-decimal}
+use Rattle.commands.specs.Digits.{digit, decimalOf}
+use Rattle.commands.proofs.OneDigit.{decimal-one, decimal-more, length-decimal}
 use Rattle.text.proofs.Stores.{stored}
 use Prim.Native.Nat.{ℕ, _<_}
 use borrow.Fn.Kinds.{In}

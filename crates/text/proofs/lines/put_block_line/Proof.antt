@@ -3,7 +3,8 @@ use mathlib.Core.Path.{sym, ap, _∙_}
 use mathlib.Core.List.{[], _∷_, _++_}
 use native.Mathlib.Omega.{arith}
 use lib.ListN.{set, length-append, length-set}
-use Rattle.text.specs.Lines.{SPACE, NEWLINE, flag, field, blockLine}
+use Rattle.commands.specs.Digits.{SPACE, flag}
+use Rattle.text.specs.Lines.{NEWLINE, field, blockLine}
 use Rattle.text.proofs.Runs.{length-field}
 use Rattle.text.proofs.Stores.{stored}
 use borrow.Author.Needs.{needs}

@@ -3,9 +3,9 @@ use mathlib.Core.Path.{sym}
 use mathlib.Core.List.{[], _∷_}
 use native.Mathlib.Omega.{arith}
 use lib.ListN.{length-append}
-use Rattle.text.specs.Digits.{decimal}
+use Rattle.commands.specs.Digits.{decimal}
 use Rattle.text.specs.Lines.{field}
-use Rattle.text.proofs.OneDigit.{length-decimal}
+use Rattle.commands.proofs.OneDigit.{length-decimal}
 use Rattle.text.proofs.Stores.{stored}
 use borrow.Author.Needs.{needs}
 use Rattle.text.proofs.lines.put_field.Statement.{statement}

@@ -4,9 +4,9 @@ use mathlib.Core.List.{[], _∷_, _++_}
 use Prim.Native.Nat.{_+_}
 use native.Mathlib.Omega.{arith}
 use lib.ListN.{length-append, length-set}
-use Rattle.text.specs.Digits.{hex}
-use Rattle.text.specs.Lines.{SPACE, NEWLINE, field, runLine}
-use Rattle.text.proofs.OneDigit.{length-hex}
+use Rattle.commands.specs.Digits.{SPACE, hex}
+use Rattle.text.specs.Lines.{NEWLINE, field, runLine}
+use Rattle.commands.proofs.OneDigit.{length-hex}
 use Rattle.text.proofs.Runs.{length-field}
 use Rattle.text.proofs.Stores.{stored}
 use borrow.Author.Needs.{needs}

@@ -1,9 +1,9 @@
--- `text::commands::read_command` meets its contract: the length picks the command. Assumes nothing.
+-- `commands::read_command` meets its contract: the length picks the command. Assumes nothing.
 use borrow.Author.Tests.{eq-eqb, ne-eqb}
-use Rattle.text.specs.Commands.{command}
+use Rattle.commands.specs.Commands.{command}
 use borrow.Author.Needs.{needs}
-use Rattle.text.proofs.commands.read_command.Statement.{statement}
-use Rattle.text.proofs.commands.read_command.Tie as tie
+use Rattle.commands.proofs.read_command.Statement.{statement}
+use Rattle.commands.proofs.read_command.Tie as tie
 
 block-command-requires : tie.Need-block-command-requires
 block-command-requires c κs = search needs

@@ -1,10 +1,10 @@
--- `text::commands::time_command` meets its contract. Assumes nothing.
+-- `commands::time_command` meets its contract. Assumes nothing.
 use mathlib.Core.Path.{ap, _∙_}
 use borrow.Author.Tests.{eq-eqb, ne-eqb}
-use Rattle.text.specs.Commands.{timeOf, timeCommand}
+use Rattle.commands.specs.Commands.{timeOf, timeCommand}
 use borrow.Author.Needs.{needs}
-use Rattle.text.proofs.commands.time_command.Statement.{statement}
-use Rattle.text.proofs.commands.time_command.Tie as tie
+use Rattle.commands.proofs.time_command.Statement.{statement}
+use Rattle.commands.proofs.time_command.Tie as tie
 
 shared-slice-read-if1 : tie.Need-shared-slice-read-if1
 shared-slice-read-if1 c = search needs

@@ -1,9 +1,9 @@
--- `text::commands::block_command` meets its contract. Assumes nothing.
+-- `commands::block_command` meets its contract. Assumes nothing.
 use borrow.Author.Tests.{eq-eqb, ne-eqb}
-use Rattle.text.specs.Commands.{blockCommand}
+use Rattle.commands.specs.Commands.{blockCommand}
 use borrow.Author.Needs.{needs}
-use Rattle.text.proofs.commands.block_command.Statement.{statement}
-use Rattle.text.proofs.commands.block_command.Tie as tie
+use Rattle.commands.proofs.block_command.Statement.{statement}
+use Rattle.commands.proofs.block_command.Tie as tie
 
 shared-slice-read-if1 : tie.Need-shared-slice-read-if1
 shared-slice-read-if1 c = search needs

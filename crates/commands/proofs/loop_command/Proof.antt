@@ -1,9 +1,9 @@
--- `text::commands::loop_command` meets its contract: at each `return`, the tests that led there are rewritten with. Assumes nothing.
+-- `commands::loop_command` meets its contract: at each `return`, the tests that led there are rewritten with. Assumes nothing.
 use borrow.Author.Tests.{eq-eqb, ne-eqb}
-use Rattle.text.specs.Commands.{loopCommand}
+use Rattle.commands.specs.Commands.{loopCommand}
 use borrow.Author.Needs.{needs}
-use Rattle.text.proofs.commands.loop_command.Statement.{statement}
-use Rattle.text.proofs.commands.loop_command.Tie as tie
+use Rattle.commands.proofs.loop_command.Statement.{statement}
+use Rattle.commands.proofs.loop_command.Tie as tie
 
 shared-slice-read-if1 : tie.Need-shared-slice-read-if1
 shared-slice-read-if1 c = search needs

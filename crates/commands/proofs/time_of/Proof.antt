@@ -1,10 +1,10 @@
--- `text::commands::time_of` meets its contract: at each `return`, the tests that led there are rewritten with. Assumes nothing.
+-- `commands::time_of` meets its contract: at each `return`, the tests that led there are rewritten with. Assumes nothing.
 use mathlib.Core.Path.{sym}
 use borrow.Author.Tests.{eq-eqb, ne-eqb}
-use Rattle.text.specs.Commands.{timeOf}
+use Rattle.commands.specs.Commands.{timeOf}
 use borrow.Author.Needs.{needs}
-use Rattle.text.proofs.commands.time_of.Statement.{statement}
-use Rattle.text.proofs.commands.time_of.Tie as tie
+use Rattle.commands.proofs.time_of.Statement.{statement}
+use Rattle.commands.proofs.time_of.Tie as tie
 
 enum-known-time : tie.Need-enum-known-time
 enum-known-time c = search needs

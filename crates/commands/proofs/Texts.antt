@@ -11,15 +11,14 @@ use lib.Dec.{leb, ltb, eqb}
 use lib.Pow.{pow-add}
 use lib.ListN.{length, getD, take, drop, length-append, length-drop, take-append-drop}
 use lib.Seq.{take-all, drop-drop, drop-cons, drop-append-add, getD-append-add, getD-at}
-use Rattle.text.specs.Digits.{digit, hex, digitValue, hexFrom, hexAt}
-use Rattle.text.specs.Lines.{SPACE}
-use Rattle.text.specs.Commands.{at, space, blockCommand, loopCommand, timeOf, timeCommand, startOf, startCommand, command}
-use Rattle.text.specs.Statement.{timeLine, lineOf, IsBits, IsCommand, TextsAreRead, LinesAreTexts}
-use Rattle.text.specs.declared.Number.{Number}
-use Rattle.text.specs.declared.Number.the-variants.{Value, Nothing}
-use Rattle.text.specs.declared.Command.{Command}
-use Rattle.text.specs.declared.Command.the-variants.{Start, Stop, LoopStart, LoopEnd, Loop, Block, Unknown}
-use Rattle.text.proofs.OneDigit.{length-hex}
+use Rattle.commands.specs.Digits.{SPACE, digit, hex, digitValue, hexFrom, hexAt}
+use Rattle.commands.specs.Commands.{at, space, blockCommand, loopCommand, timeOf, timeCommand, startOf, startCommand, command}
+use Rattle.commands.specs.Statement.{timeLine, lineOf, IsBits, IsCommand, TextsAreRead, LinesAreTexts}
+use Rattle.commands.specs.declared.Number.{Number}
+use Rattle.commands.specs.declared.Number.the-variants.{Value, Nothing}
+use Rattle.commands.specs.declared.Command.{Command}
+use Rattle.commands.specs.declared.Command.the-variants.{Start, Stop, LoopStart, LoopEnd, Loop, Block, Unknown}
+use Rattle.commands.proofs.OneDigit.{length-hex}
 
 -- ---- digits
 value-digit : (d : ℕ) → d < 16 → digitValue (digit d) ≡ d

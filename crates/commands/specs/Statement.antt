@@ -3,11 +3,10 @@ use mathlib.Core.Path.{_≡_}
 use mathlib.Core.List.{List, [], _∷_, _++_}
 use mathlib.Core.Logic.{_⊎_}
 use Prim.Native.Nat.{ℕ, _+_, _^_, _<_}
-use Rattle.text.specs.Digits.{hex}
-use Rattle.text.specs.Lines.{SPACE, flag}
-use Rattle.text.specs.Commands.{command}
-use Rattle.text.specs.declared.Command.{Command}
-use Rattle.text.specs.declared.Command.the-variants.{Start, Stop, LoopStart, LoopEnd, Loop, Block, Unknown}
+use Rattle.commands.specs.Digits.{SPACE, flag, hex}
+use Rattle.commands.specs.Commands.{command}
+use Rattle.commands.specs.declared.Command.{Command}
+use Rattle.commands.specs.declared.Command.the-variants.{Start, Stop, LoopStart, LoopEnd, Loop, Block, Unknown}
 
 -- a letter and a time: 'f64 bits, 16 upper-case hex digits'
 abbrev pub timeLine : ℕ → ℕ → List ℕ

@@ -1,10 +1,10 @@
--- `text::commands::start_command` meets its contract: at each `return`, the tests that led there and the numbers that were read are rewritten with. Assumes nothing.
+-- `commands::start_command` meets its contract: at each `return`, the tests that led there and the numbers that were read are rewritten with. Assumes nothing.
 use mathlib.Core.Path.{sym, _∙_}
 use borrow.Author.Tests.{eq-eqb, ne-eqb}
-use Rattle.text.specs.Commands.{startOf, startCommand}
+use Rattle.commands.specs.Commands.{startOf, startCommand}
 use borrow.Author.Needs.{needs}
-use Rattle.text.proofs.commands.start_command.Statement.{statement}
-use Rattle.text.proofs.commands.start_command.Tie as tie
+use Rattle.commands.proofs.start_command.Statement.{statement}
+use Rattle.commands.proofs.start_command.Tie as tie
 
 shared-slice-read-if1 : tie.Need-shared-slice-read-if1
 shared-slice-read-if1 c = search needs

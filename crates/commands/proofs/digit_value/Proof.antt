@@ -1,11 +1,11 @@
--- `text::digits::digit_value` meets its contract: the ranges that led to each `return` decide the tests. Assumes nothing.
+-- `commands::digit_value` meets its contract: the ranges that led to each `return` decide the tests. Assumes nothing.
 use Prim.Native.Nat.{_≤_, _<_}
 use native.Mathlib.Omega.{arith}
 use borrow.Author.Tests.{le-leb, lt-leb}
-use Rattle.text.specs.Digits.{digitValue}
+use Rattle.commands.specs.Digits.{digitValue}
 use borrow.Author.Needs.{needs}
-use Rattle.text.proofs.digits.digit_value.Statement.{statement}
-use Rattle.text.proofs.digits.digit_value.Tie as tie
+use Rattle.commands.proofs.digit_value.Statement.{statement}
+use Rattle.commands.proofs.digit_value.Tie as tie
 
 cast-result : tie.Need-cast-result
 cast-result c = search needs

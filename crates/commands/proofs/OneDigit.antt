@@ -11,9 +11,9 @@ use lib.Dec.{leb, ltb, eqb}
 use lib.Pow.{pow-add, pow-mono}
 use lib.ListN.{length, getD, set, drop, length-append}
 use lib.Seq.{sets, getD-drop, drop-drop}
-use Rattle.text.specs.Digits.{digit, hex, decimalOf, digitValue, hexFrom}
-use Rattle.text.specs.declared.Number.{Number}
-use Rattle.text.specs.declared.Number.the-variants.{Value, Nothing}
+use Rattle.commands.specs.Digits.{digit, hex, decimalOf, digitValue, hexFrom}
+use Rattle.commands.specs.declared.Number.{Number}
+use Rattle.commands.specs.declared.Number.the-variants.{Value, Nothing}
 
 pub length-hex : (n v : ℕ) → length (hex n v) ≡ n
 unfolding hex

@@ -1,10 +1,56 @@
-// A line as a command.
+// A line of the input of `trial` as a command.
 ghost use mathlib.Core.Path.{_≡_};
+ghost use Prim.Native.Nat.{_+_, _≤_};
 ghost use lib.ListN.{length};
-ghost use Rattle.text.specs.Commands.{blockCommand, loopCommand, timeOf, timeCommand, startCommand, command};
-use super::Command;
-use super::Number;
-use super::digits::read_hex;
+ghost use Rattle.commands.specs.Digits.{digitValue, hexAt};
+ghost use Rattle.commands.specs.Commands.{blockCommand, loopCommand, timeOf, timeCommand, startCommand, command};
+ghost use Rattle.commands.specs.Statement.{CommandLines};
+
+// A number that was read, if there was one.
+pub enum Number {
+    Value(u64),
+    Nothing,
+}
+
+// A line of input; times are f64 bit patterns.
+pub enum Command {
+    Start(u64, u64, u64),
+    Stop(u64),
+    LoopStart(u64),
+    LoopEnd(u64),
+    Loop(bool),
+    Block,
+    Unknown,
+}
+
+// The value of a hex digit, and 16 of any other byte.
+fn digit_value(b: u8) -> u64
+    ensures { λ r. ⌜ r ≡ digitValue b ⌝ }
+{
+    match b {
+        48..=57 => (b - 48) as u64,
+        65..=70 => (b - 55) as u64,
+        _ => 16,
+    }
+}
+
+// Reads the 16 hex digits that stand from `at` on.
+fn read_hex(line: &[u8], at: usize) -> Number
+    requires { ⌜ at + 16 ≤ length (now line) ⌝ }
+    ensures { λ r. ⌜ r ≡ hexAt (now (line .entry)) at ⌝ }
+{
+    let mut v: u64 = 0;
+    let mut i = 0;
+    while i < 16 {
+        let d = digit_value(line[at + i]);
+        if d == 16 {
+            return Number::Nothing;
+        }
+        v = 16 * v + d;
+        i += 1;
+    }
+    Number::Value(v)
+}
 
 fn block_command(line: &[u8]) -> Command
     requires { ⌜ length (now line) ≡ 1 ⌝ }
@@ -110,3 +156,8 @@ pub fn read_command(line: &[u8]) -> Command
     }
     Command::Unknown
 }
+
+// A line is a command exactly when it is that command's text.
+pub fn command_lines()
+    ensures { λ _. ⌜ CommandLines ⌝ }
+{}

@@ -1,4 +1,4 @@
--- `text::digits::read_hex` meets its contract. The invariant: to read on from here is to read all. Assumes nothing.
+-- `commands::read_hex` meets its contract. The invariant: to read on from here is to read all. Assumes nothing.
 use mathlib.Core.Path.{_≡_, refl, sym, ap, _∙_}
 use Prim.Native.Nat.{_+_, _-_, _*_, _^_, _≤_, _<_}
 use native.Mathlib.Nat.{add-zero}
@@ -6,10 +6,10 @@ use native.Mathlib.Omega.{arith}
 use lib.Dec.{lit<}
 use lib.ListN.{drop}
 use borrow.Author.Needs.{needs}
-use Rattle.text.specs.Digits.{hexFrom, hexAt}
-use Rattle.text.proofs.OneDigit.{digit-known, grows, room, hex-from, hex-stops, hex-done}
-use Rattle.text.proofs.digits.read_hex.Statement.{statement}
-use Rattle.text.proofs.digits.read_hex.Tie as tie
+use Rattle.commands.specs.Digits.{hexFrom, hexAt}
+use Rattle.commands.proofs.OneDigit.{digit-known, grows, room, hex-from, hex-stops, hex-done}
+use Rattle.commands.proofs.read_hex.Statement.{statement}
+use Rattle.commands.proofs.read_hex.Tie as tie
 
 abbrev Inv-loop : tie.InvT-loop
 Inv-loop line at v₀ i₀ v i = (i ≤ 16) × (v < 2 ^ (4 * i)) × (hexFrom (16 - i) v (drop (at + i) line) ≡ hexAt line at)

@@ -1,11 +1,18 @@
--- Numbers as digits, in bytes. Definitions only.
+-- Numbers as digits, in bytes; a space, and a flag as a number. Definitions only.
 use mathlib.Core.Bool.{Bool, true, false, _&&_, cond}
 use mathlib.Core.List.{List, [], _∷_, _++_}
 use Prim.Native.Nat.{ℕ, zero, suc, _+_, _-_, _*_, _/_, _%_, _^_}
 use lib.Dec.{leb, ltb, eqb}
 use lib.ListN.{getD, drop}
-use Rattle.text.specs.declared.Number.{Number}
-use Rattle.text.specs.declared.Number.the-variants.{Value, Nothing}
+use Rattle.commands.specs.declared.Number.{Number}
+use Rattle.commands.specs.declared.Number.the-variants.{Value, Nothing}
+
+abbrev pub SPACE : ℕ
+SPACE = 32
+
+-- a flag as 0 or 1
+abbrev pub flag : Bool → ℕ
+flag b = cond b 1 0
 
 -- the byte of a digit below 16: 0 to 9, A to F
 unfoldable pub digit : ℕ → ℕ
