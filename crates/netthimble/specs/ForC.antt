@@ -1,4 +1,5 @@
--- The answers of the calls for C: for each case of an answer its values and 0, or the refusal's number beside zeros (document 01, 'The shape of each place': 'a definition gives this paper's number and values for each of its cases'). Definitions only.
+-- The answers of the calls for C: for each case of an answer its values and 0, or the refusal's number beside zeros (document 01, 'The shape of each
+-- place': 'a definition gives this paper's number and values for each of its cases'). Definitions only.
 -- The player's calls are in Lent.antt of the crate `lent`.
 use Prim.Native.Nat.{ℕ}
 use Rattle.buffer.specs.declared.Copied.{Copied}

@@ -68,7 +68,9 @@ pub extern "C" fn netthimble_copy_from_channel(
     offset: usize,
 ) -> Copy
     ensures { λ r. ⌜ (r ≡ copyFor (copied channels frames (length (now (samples .entry))) number offset (length (now (destination .entry)))))
-        × (now (destination .exit) ≡ copiedOut (copyAnswer (copied channels frames (length (now (samples .entry))) number offset (length (now (destination .entry))))) (channel (now (samples .entry)) frames number) offset (now (destination .entry))) ⌝ }
+        × (now (destination .exit)
+        ≡ copiedOut (copyAnswer (copied channels frames (length (now (samples .entry))) number offset (length (now (destination .entry)))))
+        (channel (now (samples .entry)) frames number) offset (now (destination .entry))) ⌝ }
 {
     copy_for(buffer::copy_from_channel_with_offset(
         channels,
@@ -91,7 +93,8 @@ pub extern "C" fn netthimble_copy_to_channel(
     offset: usize,
 ) -> Copy
     ensures { λ r. ⌜ (r ≡ copyFor (copied channels frames (length (now (samples .entry))) number offset (length (now (source .entry)))))
-        × (now (samples .exit) ≡ copiedIn (copyAnswer (copied channels frames (length (now (samples .entry))) number offset (length (now (source .entry))))) (now (source .entry)) (frames * number + offset) (now (samples .entry))) ⌝ }
+        × (now (samples .exit) ≡ copiedIn (copyAnswer (copied channels frames (length (now (samples .entry))) number offset (length (now (source .entry)))))
+        (now (source .entry)) (frames * number + offset) (now (samples .entry))) ⌝ }
 {
     copy_for(buffer::copy_to_channel_with_offset(channels, frames, samples, source, number, offset))
 }
@@ -114,7 +117,9 @@ pub extern "C" fn netthimble_extend(
     out: &mut [u32],
 ) -> Shaped
     ensures { λ r. ⌜ (r ≡ madeFor (fitted (extendedShape a (length (now (samples .entry))) b (length (now (other .entry)))) (length (now (out .entry)))))
-        × (now (out .exit) ≡ stored (madeAnswer (fitted (extendedShape a (length (now (samples .entry))) b (length (now (other .entry)))) (length (now (out .entry))))) (joined a (now (samples .entry)) b (now (other .entry))) (now (out .entry))) ⌝ }
+        × (now (out .exit)
+        ≡ stored (madeAnswer (fitted (extendedShape a (length (now (samples .entry))) b (length (now (other .entry)))) (length (now (out .entry)))))
+        (joined a (now (samples .entry)) b (now (other .entry))) (now (out .entry))) ⌝ }
 {
     made_for(buffer::extend(a, samples, b, other, out))
 }
@@ -136,9 +141,14 @@ pub extern "C" fn netthimble_split(
     first: &mut [u32],
     rest: &mut [u32],
 ) -> Parts
-    ensures { λ r. ⌜ (r ≡ partedFor (bothFitted (splitShapes shape (length (now (samples .entry))) point) (length (now (first .entry))) (length (now (rest .entry)))))
-        × (now (first .exit) ≡ stored (partedAnswer (bothFitted (splitShapes shape (length (now (samples .entry))) point) (length (now (first .entry))) (length (now (rest .entry))))) (firstPart shape (now (samples .entry)) point) (now (first .entry)))
-        × (now (rest .exit) ≡ stored (partedAnswer (bothFitted (splitShapes shape (length (now (samples .entry))) point) (length (now (first .entry))) (length (now (rest .entry))))) (restPart shape (now (samples .entry)) point) (now (rest .entry))) ⌝ }
+    ensures { λ r. ⌜
+        (r ≡ partedFor (bothFitted (splitShapes shape (length (now (samples .entry))) point) (length (now (first .entry))) (length (now (rest .entry)))))
+        × (now (first .exit) ≡ stored
+        (partedAnswer (bothFitted (splitShapes shape (length (now (samples .entry))) point) (length (now (first .entry))) (length (now (rest .entry)))))
+        (firstPart shape (now (samples .entry)) point) (now (first .entry)))
+        × (now (rest .exit) ≡ stored
+        (partedAnswer (bothFitted (splitShapes shape (length (now (samples .entry))) point) (length (now (first .entry))) (length (now (rest .entry)))))
+        (restPart shape (now (samples .entry)) point) (now (rest .entry))) ⌝ }
 {
     parted_for(buffer::split(shape, samples, point, first, rest))
 }
@@ -160,7 +170,8 @@ pub extern "C" fn netthimble_convert(
     out: &mut [u32],
 ) -> Shaped
     ensures { λ r. ⌜ (r ≡ madeFor (fitted (convertedShape shape (length (now (samples .entry))) rate) (length (now (out .entry)))))
-        × (now (out .exit) ≡ stored (madeAnswer (fitted (convertedShape shape (length (now (samples .entry))) rate) (length (now (out .entry))))) (convertedSamples shape (now (samples .entry)) rate) (now (out .entry))) ⌝ }
+        × (now (out .exit) ≡ stored (madeAnswer (fitted (convertedShape shape (length (now (samples .entry))) rate) (length (now (out .entry)))))
+        (convertedSamples shape (now (samples .entry)) rate) (now (out .entry))) ⌝ }
 {
     made_for(buffer::convert(shape, samples, rate, out))
 }

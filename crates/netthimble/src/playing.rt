@@ -92,8 +92,10 @@ pub extern "C" fn netthimble_player_process(
     rate: f32,
     factor: f64,
 ) -> BlockAnswer
-    ensures { λ r. ⌜ (r ≡ afterBlock (now (p .entry)) (rendered 128 (now (p .entry)) (length (now (out .entry))) (length (now (samples .entry))) time rate factor) .answer)
-        × (now (p .exit) ≡ afterBlock (now (p .entry)) (rendered 128 (now (p .entry)) (length (now (out .entry))) (length (now (samples .entry))) time rate factor) .player)
+    ensures { λ r. ⌜
+        (r ≡ afterBlock (now (p .entry)) (rendered 128 (now (p .entry)) (length (now (out .entry))) (length (now (samples .entry))) time rate factor) .answer)
+        × (now (p .exit)
+        ≡ afterBlock (now (p .entry)) (rendered 128 (now (p .entry)) (length (now (out .entry))) (length (now (samples .entry))) time rate factor) .player)
         × (now (out .exit) ≡ output 128 (now (p .entry)) (now (out .entry)) (now (samples .entry)) time rate factor) ⌝ }
 {
     let r = block_by_value(*p, out, samples, time, rate, factor);

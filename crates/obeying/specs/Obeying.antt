@@ -57,7 +57,8 @@ abbrev pub seconds : ℕ → Float
 seconds bits = ofBits binary64 bits
 
 -- ---- blocks
--- `B` lines are counted up to 2 ^ 45. A later one has the time of that number, over 2 ^ 30 at every allowed rate, and is refused with 13 (`LateBlocks` of Statement.antt).
+-- `B` lines are counted up to 2 ^ 45. A later one has the time of that number, over 2 ^ 30 at every allowed rate, and is refused with 13 (`LateBlocks` of
+-- Statement.antt).
 abbrev pub mostBlocks : ℕ
 mostBlocks = 35184372088832
 
@@ -73,7 +74,8 @@ blockTime s = div binary64 (whole (128 * counted (s .number))) (s .player .«sam
 
 -- an accepted block is printed; the number goes up in any case
 unfoldable pub afterBlock : Session → List ℕ → Rendered → Reply
-afterBlock s words (block.Block r) = reply (sessionOf (r .player) (nextNumber (s .number))) (blockText (s .number) (r .«keep_alive») (r .ended) (r .channels) words)
+afterBlock s words (block.Block r) =
+    reply (sessionOf (r .player) (nextNumber (s .number))) (blockText (s .number) (r .«keep_alive») (r .ended) (r .channels) words)
 afterBlock s words (block.Refused number) = refused (sessionOf (s .player) (nextNumber (s .number))) number
 
 -- 'with rate and factor 1': the block output after the line, and the reply

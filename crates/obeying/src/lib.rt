@@ -4,7 +4,8 @@ ghost use Prim.Native.Nat.{_≤_};
 ghost use lib.ListN.{length};
 ghost use lib.Seq.{sets};
 ghost use Rattle.text.specs.Lines.{blockRoom};
-ghost use Rattle.obeying.specs.Obeying.{refused, sent, counted, blockTime, playedWords, played, obeyed, hasRoom, answerOf, answered, wordsAfter, outAfter, written, bytesOf};
+ghost use Rattle.obeying.specs.Obeying.{refused, sent, counted, blockTime, playedWords, played, obeyed};
+ghost use Rattle.obeying.specs.Obeying.{hasRoom, answerOf, answered, wordsAfter, outAfter, written, bytesOf};
 ghost use Rattle.obeying.specs.Statement.{LateBlocks};
 use commands::Command;
 use player::ControlMessage;
@@ -96,7 +97,8 @@ fn block_time(session: Session) -> f64
 fn play(session: Session, samples: &[u32], words: &mut [u32], out: &mut [u8]) -> Answer
     requires { ⌜ blockRoom ≤ length (now out) ⌝ }
     ensures { λ r. ⌜ (let reply = played (now (samples .entry)) session (now (words .entry)) in
-        (r ≡ answerOf reply) × (now (words .exit) ≡ playedWords (now (samples .entry)) session (now (words .entry))) × (now (out .exit) ≡ sets (now (out .entry)) 0 (reply .text))) ⌝ }
+        (r ≡ answerOf reply) × (now (words .exit) ≡ playedWords (now (samples .entry)) session (now (words .entry)))
+        × (now (out .exit) ≡ sets (now (out .entry)) 0 (reply .text))) ⌝ }
 {
     let player = session.player;
     let number = session.number;

@@ -96,7 +96,8 @@ pub fn feed(
     words: &mut [u32],
     out: &mut [u8],
 ) -> Fed
-    ensures { λ r. ⌜ (let f = fed (now (samples .entry)) (length (now (out .entry))) (runOf start (now (line .entry)) (now (words .entry))) (now (input .entry)) in
+    ensures { λ r. ⌜ (let f = fed (now (samples .entry)) (length (now (out .entry)))
+        (runOf start (now (line .entry)) (now (words .entry))) (now (input .entry)) in
         (r ≡ fedOf f) × (now (line .exit) ≡ f .run .line) × (now (words .exit) ≡ f .run .words) × (now (out .exit) ≡ sets (now (out .entry)) 0 (f .text))) ⌝ }
     ensures { λ r. ⌜ Moves (length (now (input .entry))) (length (now (out .entry))) r ⌝ }
 {

@@ -30,7 +30,11 @@ digit-value-requires : tie.Need-digit-value-requires Inv-loop μ-loop
 digit-value-requires c κs = search needs
 
 returns : tie.Need-returns Inv-loop μ-loop
-returns c = sym (sym (c .before .before .before .before .loop .inv .2) ∙ hex-stops (16 - c .before .before .before .before .loop .i) (c .before .before .before .before .loop .v) (c .before .before .before .before .before .before .args .at + c .before .before .before .before .loop .i) _ (c .before .before .before .before .before .before .args .line .now) (omega arith) (c .before .digit-value .ensures) (c .if1 .taken))
+returns c =
+    sym (sym (c .before .before .before .before .loop .inv .2)
+    ∙ hex-stops (16 - c .before .before .before .before .loop .i) (c .before .before .before .before .loop .v)
+    (c .before .before .before .before .before .before .args .at + c .before .before .before .before .loop .i) _ (c .before .before .before .before .before .before .args .line .now) (omega arith)
+    (c .before .digit-value .ensures) (c .if1 .taken))
 
 mul-v : tie.Need-mul-v Inv-loop μ-loop
 mul-v c = omega (arith, room (c .before .before .before .before .loop .v) (c .before .before .before .before .loop .i) (c .before .before .before .before .loop .inv .1) (omega arith))

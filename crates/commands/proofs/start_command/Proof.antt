@@ -58,7 +58,15 @@ enum-told-2 c = search needs
 
 returns-6 : tie.Need-returns-6
 unfolding startCommand startOf
-returns-6 c = simp (eq-eqb _ _ (c .before .before .before .before .before .before .before .before .before .before .before .before .before .if1 .left), eq-eqb _ _ (c .before .before .before .before .before .before .before .before .before .before .before .if2 .left), eq-eqb _ _ (c .before .before .before .before .before .before .before .before .before .if3 .left), eq-eqb _ _ (c .before .before .before .before .before .before .before .if4 .left), sym (c .before .before .before .before .before .before .read-hex .ensures) ∙ c .before .before .before .before .when .given .1, sym (c .before .before .read-hex2 .ensures) ∙ c .enum-told2 .given .1)
+returns-6 c =
+    simp (
+      eq-eqb _ _ (c .before .before .before .before .before .before .before .before .before .before .before .before .before .if1 .left),
+      eq-eqb _ _ (c .before .before .before .before .before .before .before .before .before .before .before .if2 .left),
+      eq-eqb _ _ (c .before .before .before .before .before .before .before .before .before .if3 .left),
+      eq-eqb _ _ (c .before .before .before .before .before .before .before .if4 .left),
+      sym (c .before .before .before .before .before .before .read-hex .ensures) ∙ c .before .before .before .before .when .given .1,
+      sym (c .before .before .read-hex2 .ensures) ∙ c .enum-told2 .given .1,
+    )
 
 read-hex-requires-3 : tie.Need-read-hex-requires-3
 read-hex-requires-3 c κs = search needs
@@ -71,11 +79,30 @@ enum-told-3 c = search needs
 
 returns-7 : tie.Need-returns-7
 unfolding startCommand startOf
-returns-7 c = simp (eq-eqb _ _ (c .before .before .before .before .before .before .before .before .before .before .before .before .before .before .before .before .before .if1 .left), eq-eqb _ _ (c .before .before .before .before .before .before .before .before .before .before .before .before .before .before .before .if2 .left), eq-eqb _ _ (c .before .before .before .before .before .before .before .before .before .before .before .before .before .if3 .left), eq-eqb _ _ (c .before .before .before .before .before .before .before .before .before .before .before .if4 .left), sym (c .before .before .before .before .before .before .before .before .before .before .read-hex .ensures) ∙ c .before .before .before .before .before .before .before .before .when .given .1, sym (c .before .before .before .before .before .before .read-hex2 .ensures) ∙ c .before .before .before .before .offset .given .1, sym (c .before .before .read-hex3 .ensures) ∙ c .enum-told3 .given .1)
+returns-7 c =
+    simp (
+      eq-eqb _ _ (c .before .before .before .before .before .before .before .before .before .before .before .before .before .before .before .before .before .if1 .left),
+      eq-eqb _ _ (c .before .before .before .before .before .before .before .before .before .before .before .before .before .before .before .if2 .left),
+      eq-eqb _ _ (c .before .before .before .before .before .before .before .before .before .before .before .before .before .if3 .left),
+      eq-eqb _ _ (c .before .before .before .before .before .before .before .before .before .before .before .if4 .left),
+      sym (c .before .before .before .before .before .before .before .before .before .before .read-hex .ensures) ∙ c .before .before .before .before .before .before .before .before .when .given .1,
+      sym (c .before .before .before .before .before .before .read-hex2 .ensures) ∙ c .before .before .before .before .offset .given .1,
+      sym (c .before .before .read-hex3 .ensures) ∙ c .enum-told3 .given .1,
+    )
 
 returns-8 : tie.Need-returns-8
 unfolding startCommand startOf
-returns-8 c = simp (eq-eqb _ _ (c .before .before .before .before .before .before .before .before .before .before .before .before .before .before .before .before .before .before .if1 .left), eq-eqb _ _ (c .before .before .before .before .before .before .before .before .before .before .before .before .before .before .before .before .if2 .left), eq-eqb _ _ (c .before .before .before .before .before .before .before .before .before .before .before .before .before .before .if3 .left), eq-eqb _ _ (c .before .before .before .before .before .before .before .before .before .before .before .before .if4 .left), sym (c .before .before .before .before .before .before .before .before .before .before .before .read-hex .ensures) ∙ c .before .before .before .before .before .before .before .before .before .when .given .1, sym (c .before .before .before .before .before .before .before .read-hex2 .ensures) ∙ c .before .before .before .before .before .offset .given .1, sym (c .before .before .before .read-hex3 .ensures) ∙ c .before .duration .given .1)
+returns-8 c =
+    simp (
+      eq-eqb _ _ (c .before .before .before .before .before .before .before .before .before .before .before .before .before .before .before .before .before .before .if1 .left),
+      eq-eqb _ _ (c .before .before .before .before .before .before .before .before .before .before .before .before .before .before .before .before .if2 .left),
+      eq-eqb _ _ (c .before .before .before .before .before .before .before .before .before .before .before .before .before .before .if3 .left),
+      eq-eqb _ _ (c .before .before .before .before .before .before .before .before .before .before .before .before .if4 .left),
+      sym (c .before .before .before .before .before .before .before .before .before .before .before .read-hex .ensures)
+          ∙ c .before .before .before .before .before .before .before .before .before .when .given .1,
+      sym (c .before .before .before .before .before .before .before .read-hex2 .ensures) ∙ c .before .before .before .before .before .offset .given .1,
+      sym (c .before .before .before .read-hex3 .ensures) ∙ c .before .duration .given .1,
+    )
 
 pub start-command-spec : {M : Type 1} → statement M
 start-command-spec =

@@ -24,7 +24,11 @@ same-length-2 c = search needs
 
 returns-2 : tie.Need-returns-2
 unfolding answered wordsAfter outAfter
-returns-2 c = simp (le-leb _ _ (c .before .before .before .before .before .before .before .if1 .left)) ((ap Line (c .before .before .before .before .obey-line .ensures .0), c .before .before .before .before .obey-line .ensures .1, c .before .before .before .before .obey-line .ensures .2), answer-fits _ _ _ _ _ _ (c .before .before .before .before .obey-line .ensures .0) (c .before .before .before .before .before .before .before .if1 .left))
+returns-2 c =
+    simp (le-leb _ _ (c .before .before .before .before .before .before .before .if1 .left)) (
+      (ap Line (c .before .before .before .before .obey-line .ensures .0), c .before .before .before .before .obey-line .ensures .1, c .before .before .before .before .obey-line .ensures .2),
+      answer-fits _ _ _ _ _ _ (c .before .before .before .before .obey-line .ensures .0) (c .before .before .before .before .before .before .before .if1 .left),
+    )
 
 pub obey-spec : {M : Type 1} → statement M
 obey-spec = tie.close (tie.spec returns obey-line-requires same-length same-length-2 returns-2)

@@ -73,7 +73,11 @@ same-length : tie.Need-same-length
 same-length c = search needs
 
 returns : tie.Need-returns
-returns c = line-as _ _ _ _ _ _ _ _ _ _ (sym (c .before .before .before .before .before .before .before .before .before .before .read-command .ensures) ∙ c .before .before .before .before .before .before .before .before .when .given .1) (start-line _ _ _ _ _ _ _ _ _ (c .before .before .before .before .before .before .from-pattern-f64 .ensures) (c .before .before .before .before .before .from-pattern-f642 .ensures) (c .before .before .before .before .from-pattern-f643 .ensures)) (c .before .before .tell .ensures .0) refl (c .before .before .tell .ensures .1)
+returns c =
+    line-as _ _ _ _ _ _ _ _ _ _
+    (sym (c .before .before .before .before .before .before .before .before .before .before .read-command .ensures) ∙ c .before .before .before .before .before .before .before .before .when .given .1)
+    (start-line _ _ _ _ _ _ _ _ _ (c .before .before .before .before .before .before .from-pattern-f64 .ensures) (c .before .before .before .before .before .from-pattern-f642 .ensures)
+    (c .before .before .before .before .from-pattern-f643 .ensures)) (c .before .before .tell .ensures .0) refl (c .before .before .tell .ensures .1)
 
 same-length-2 : tie.Need-same-length-2
 same-length-2 c = search needs

@@ -40,8 +40,18 @@ same-length-2 c = search needs
 
 returns : tie.Need-returns
 returns c =
-    let e = called (c .before .before .before .before .before .before .before .before .before .before .before .before .before .before .before .before .before .before .before .before .args .samples .now) (c .before .before .before .before .before .before .before .before .before .before .before .before .before .before .before .before .before .before .before .before .args .session) (c .before .before .before .before .before .before .before .before .before .before .before .before .before .before .before .before .before .before .before .before .args .words .now) _ _ _ (c .before .before .before .before .before .before .before .before .before .before .before .before .before .block-time .ensures) (c .before .before .before .before .before .before .before .before .before .before .before .before .process .ensures .0) (c .before .before .before .before .before .before .before .before .before .before .before .before .process .ensures .1) in
-    block-printed _ _ _ _ _ _ _ _ _ _ (c .before .before .before .before .before .before .before .before .before .before .before .before .before .before .before .before .before .before .before .before .pre) (e .0 ∙ c .before .before .before .before .before .before .before .before .report .given .1) (e .1) (c .before .before .before .before .before .before .before .before .before .before .before .before .process .kept .1 .0) (c .before .before .before .before .before .before .before .before .before .before .before .before .before .before .before .counted .ensures) (c .bytes-of .ensures) (c .before .before .before .block-text .ensures .0) (c .before .before .before .block-text .ensures .1)
+    let e = called (c .before .before .before .before .before .before .before .before .before .before .before .before .before .before .before .before .before .before .before .before .args .samples .now)
+    (c .before .before .before .before .before .before .before .before .before .before .before .before .before .before .before .before .before .before .before .before .args .session)
+    (c .before .before .before .before .before .before .before .before .before .before .before .before .before .before .before .before .before .before .before .before .args .words .now) _ _ _
+    (c .before .before .before .before .before .before .before .before .before .before .before .before .before .block-time .ensures)
+    (c .before .before .before .before .before .before .before .before .before .before .before .before .process .ensures .0)
+    (c .before .before .before .before .before .before .before .before .before .before .before .before .process .ensures .1) in
+    block-printed _ _ _ _ _ _ _ _ _ _
+    (c .before .before .before .before .before .before .before .before .before .before .before .before .before .before .before .before .before .before .before .before .pre)
+    (e .0 ∙ c .before .before .before .before .before .before .before .before .report .given .1) (e .1)
+    (c .before .before .before .before .before .before .before .before .before .before .before .before .process .kept .1 .0)
+    (c .before .before .before .before .before .before .before .before .before .before .before .before .before .before .before .counted .ensures) (c .bytes-of .ensures)
+    (c .before .before .before .block-text .ensures .0) (c .before .before .before .block-text .ensures .1)
 
 same-length-3 : tie.Need-same-length-3
 same-length-3 c = search needs
@@ -51,7 +61,11 @@ same-length-4 c = search needs
 
 returns-2 : tie.Need-returns-2
 returns-2 c =
-    let e = called (c .before .before .before .before .before .before .before .before .before .before .before .before .before .before .before .before .before .args .samples .now) (c .before .before .before .before .before .before .before .before .before .before .before .before .before .before .before .before .before .args .session) (c .before .before .before .before .before .before .before .before .before .before .before .before .before .before .before .before .before .args .words .now) _ _ _ (c .before .before .before .before .before .before .before .before .before .before .block-time .ensures) (c .before .before .before .before .before .before .before .before .before .process .ensures .0) (c .before .before .before .before .before .before .before .before .before .process .ensures .1) in
+    let e = called (c .before .before .before .before .before .before .before .before .before .before .before .before .before .before .before .before .before .args .samples .now)
+    (c .before .before .before .before .before .before .before .before .before .before .before .before .before .before .before .before .before .args .session)
+    (c .before .before .before .before .before .before .before .before .before .before .before .before .before .before .before .before .before .args .words .now) _ _ _
+    (c .before .before .before .before .before .before .before .before .before .before .block-time .ensures)
+    (c .before .before .before .before .before .before .before .before .before .process .ensures .0) (c .before .before .before .before .before .before .before .before .before .process .ensures .1) in
     block-turned-down _ _ _ _ _ _ _ _ _ (e .0 ∙ c .before .before .before .before .before .refusal .given .1) (e .1) (c .before .before .before .before .before .before .before .before .before .before .before .before .counted .ensures) (c .before .before .refuse .ensures .0) (c .before .before .refuse .ensures .1)
 
 pub play-spec : {M : Type 1} → statement M

@@ -25,7 +25,11 @@ same-length c = search needs
 
 returns : tie.Need-returns
 unfolding field
-returns c = (omega (arith, length-append (decimal (c .before .before .before .before .before .args .v)) (c .before .before .before .before .before .args .after ∷ []), c .before .before .put-decimal .ensures .0), sym (stored (decimal (c .before .before .before .before .before .args .v)) (c .before .before .before .before .before .args .after ∷ []) _ _ _ _ (c .before .before .put-decimal .ensures .1) (c .before .before .put-decimal .ensures .0)))
+returns c = (
+  omega (arith, length-append (decimal (c .before .before .before .before .before .args .v)) (c .before .before .before .before .before .args .after ∷ []), c .before .before .put-decimal .ensures .0),
+  sym (stored (decimal (c .before .before .before .before .before .args .v)) (c .before .before .before .before .before .args .after ∷ []) _ _ _ _ (c .before .before .put-decimal .ensures .1)
+      (c .before .before .put-decimal .ensures .0)),
+)
 
 pub put-field-spec : {M : Type 1} → statement M
 put-field-spec =
