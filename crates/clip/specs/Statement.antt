@@ -24,7 +24,8 @@ pub record IsClip (file : List ℕ) (channels frames rate : ℕ) (samples : List
 -- a file that passes the test is the layout's bytes of what is read from it
 abbrev pub Sound : Type 0
 Sound = (file : List ℕ) → Below 256 file → isLayout file ≡ true
-    → IsClip file (channelsField file) (framesField file) (rateField file) (framesFrom file (headerLength (channelsField file)) (channelsField file * framesField file))
+    → IsClip file (channelsField file) (framesField file) (rateField file)
+    (framesFrom file (headerLength (channelsField file)) (channelsField file * framesField file))
 
 -- the layout's bytes pass the test, and what is read from them is what they were made of
 abbrev pub Complete : Type 0

@@ -1,4 +1,2 @@
 -- What the proofs of `netthimble` share.
-mod Answers
 mod Same
-mod Mute

@@ -1,9 +1,7 @@
--- The answers of the calls for C: for each case of an answer its values and 0, or the refusal's number beside zeros (document 01, 'The shape of each place': 'a definition gives this paper's number and values for each of its cases'). Definitions only.
--- The player's calls are in Lent.antt.
-use mathlib.Core.Bool.{true, false}
+-- The answers of the calls for C: for each case of an answer its values and 0, or the refusal's number beside zeros (document 01, 'The shape of each
+-- place': 'a definition gives this paper's number and values for each of its cases'). Definitions only.
+-- The player's calls are in Lent.antt of the crate `lent`.
 use Prim.Native.Nat.{ℕ}
-use lib.Ieee.{binary32, ofBits}
-use Rattle.buffer.specs.declared.Shape.{Shape}
 use Rattle.buffer.specs.declared.Copied.{Copied}
 use Rattle.buffer.specs.declared.Copied.the-variants as copied
 use Rattle.reshape.specs.declared.Made.{Made}
@@ -12,34 +10,10 @@ use Rattle.reshape.specs.declared.Parted.{Parted}
 use Rattle.reshape.specs.declared.Parted.the-variants as parted
 use Rattle.clip.specs.declared.ClipRead.{ClipRead}
 use Rattle.clip.specs.declared.ClipRead.the-variants as clip
-use Rattle.seconds.specs.Seconds.{context, inClip, none}
-use Rattle.player.specs.Record.{shapeOf, loopOf, renderOf}
-use Rattle.player.specs.declared.Player.{Player}
+use Rattle.lent.specs.Nobody.{noShape}
 use Rattle.netthimble.specs.declared.Shaped.{Shaped}
 use Rattle.netthimble.specs.declared.Parts.{Parts}
 use Rattle.netthimble.specs.declared.Copy.{Copy}
-
--- no shape
-abbrev pub noShape : Shape
-noShape = shapeOf 0 0 (ofBits binary32 0)
-
--- The player that a refused rate is answered with: ended, marked as started and as holding a buffer of no channels.
--- So a start, the buffer call and every block of it are refused.
-unfoldable pub nobody : Player
-nobody = record {
-  «sample_rate» = ofBits binary32 0;
-  «start_time» = context none;
-  «stop_time» = context none;
-  offset = inClip none;
-  duration = inClip none;
-  «loop_state» = loopOf false none none;
-  «render_state» = renderOf none false false none false true;
-  «has_start» = true;
-  «has_buffer» = true;
-  shape = noShape;
-  «has_block» = false;
-  «block_time» = context none;
-}
 
 -- reading a clip's header: its shape
 unfoldable pub clipFor : ClipRead → Shaped

@@ -1,4 +1,2 @@
--- What the calls for C answer, and the player of a refused rate.
-pub mod Lent
+-- What the calls for C answer.
 pub mod ForC
-pub mod Nobody

@@ -10,25 +10,15 @@ ghost use Rattle.reshape.specs.Fitting.{fitted};
 ghost use Rattle.reshape.specs.Joining.{extendedShape, joined};
 ghost use Rattle.reshape.specs.Parting.{splitShapes, bothFitted, firstPart, restPart};
 ghost use Rattle.reshape.specs.Converting.{convertedShape, convertedSamples};
-ghost use Rattle.netthimble.specs.ForC.{noShape, copyFor, madeFor, partedFor};
+ghost use Rattle.netthimble.specs.ForC.{copyFor, madeFor, partedFor};
 use super::Copy;
 use super::Parts;
 use super::Shaped;
 use buffer::Copied;
 use buffer::Shape;
+use lent::no_shape;
 use reshape::Made;
 use reshape::Parted;
-
-// The shape of a refused answer.
-pub(crate) fn no_shape() -> Shape
-    ensures { λ r. ⌜ r ≡ noShape ⌝ }
-{
-    Shape {
-        channels: 0,
-        frames: 0,
-        rate: 0.0,
-    }
-}
 
 fn copy_for(answer: Copied) -> Copy
     ensures { λ r. ⌜ r ≡ copyFor answer ⌝ }
@@ -79,7 +69,9 @@ pub extern "C" fn netthimble_copy_from_channel(
     offset: usize,
 ) -> Copy
     ensures { λ r. ⌜ (r ≡ copyFor (copied channels frames (length (now (samples .entry))) number offset (length (now (destination .entry)))))
-        × (now (destination .exit) ≡ copiedOut (copyAnswer (copied channels frames (length (now (samples .entry))) number offset (length (now (destination .entry))))) (channel (now (samples .entry)) frames number) offset (now (destination .entry))) ⌝ }
+        × (now (destination .exit)
+        ≡ copiedOut (copyAnswer (copied channels frames (length (now (samples .entry))) number offset (length (now (destination .entry)))))
+        (channel (now (samples .entry)) frames number) offset (now (destination .entry))) ⌝ }
 {
     copy_for(buffer::copy_from_channel_with_offset(
         channels,
@@ -102,7 +94,8 @@ pub extern "C" fn netthimble_copy_to_channel(
     offset: usize,
 ) -> Copy
     ensures { λ r. ⌜ (r ≡ copyFor (copied channels frames (length (now (samples .entry))) number offset (length (now (source .entry)))))
-        × (now (samples .exit) ≡ copiedIn (copyAnswer (copied channels frames (length (now (samples .entry))) number offset (length (now (source .entry))))) (now (source .entry)) (frames * number + offset) (now (samples .entry))) ⌝ }
+        × (now (samples .exit) ≡ copiedIn (copyAnswer (copied channels frames (length (now (samples .entry))) number offset (length (now (source .entry)))))
+        (now (source .entry)) (frames * number + offset) (now (samples .entry))) ⌝ }
 {
     copy_for(buffer::copy_to_channel_with_offset(channels, frames, samples, source, number, offset))
 }
@@ -125,7 +118,9 @@ pub extern "C" fn netthimble_extend(
     out: &mut [u32],
 ) -> Shaped
     ensures { λ r. ⌜ (r ≡ madeFor (fitted (extendedShape a (length (now (samples .entry))) b (length (now (other .entry)))) (length (now (out .entry)))))
-        × (now (out .exit) ≡ stored (madeAnswer (fitted (extendedShape a (length (now (samples .entry))) b (length (now (other .entry)))) (length (now (out .entry))))) (joined a (now (samples .entry)) b (now (other .entry))) (now (out .entry))) ⌝ }
+        × (now (out .exit)
+        ≡ stored (madeAnswer (fitted (extendedShape a (length (now (samples .entry))) b (length (now (other .entry)))) (length (now (out .entry)))))
+        (joined a (now (samples .entry)) b (now (other .entry))) (now (out .entry))) ⌝ }
 {
     made_for(reshape::extend(a, samples, b, other, out))
 }
@@ -147,9 +142,14 @@ pub extern "C" fn netthimble_split(
     first: &mut [u32],
     rest: &mut [u32],
 ) -> Parts
-    ensures { λ r. ⌜ (r ≡ partedFor (bothFitted (splitShapes shape (length (now (samples .entry))) point) (length (now (first .entry))) (length (now (rest .entry)))))
-        × (now (first .exit) ≡ stored (partedAnswer (bothFitted (splitShapes shape (length (now (samples .entry))) point) (length (now (first .entry))) (length (now (rest .entry))))) (firstPart shape (now (samples .entry)) point) (now (first .entry)))
-        × (now (rest .exit) ≡ stored (partedAnswer (bothFitted (splitShapes shape (length (now (samples .entry))) point) (length (now (first .entry))) (length (now (rest .entry))))) (restPart shape (now (samples .entry)) point) (now (rest .entry))) ⌝ }
+    ensures { λ r. ⌜
+        (r ≡ partedFor (bothFitted (splitShapes shape (length (now (samples .entry))) point) (length (now (first .entry))) (length (now (rest .entry)))))
+        × (now (first .exit) ≡ stored
+        (partedAnswer (bothFitted (splitShapes shape (length (now (samples .entry))) point) (length (now (first .entry))) (length (now (rest .entry)))))
+        (firstPart shape (now (samples .entry)) point) (now (first .entry)))
+        × (now (rest .exit) ≡ stored
+        (partedAnswer (bothFitted (splitShapes shape (length (now (samples .entry))) point) (length (now (first .entry))) (length (now (rest .entry)))))
+        (restPart shape (now (samples .entry)) point) (now (rest .entry))) ⌝ }
 {
     parted_for(reshape::split(shape, samples, point, first, rest))
 }
@@ -171,7 +171,8 @@ pub extern "C" fn netthimble_convert(
     out: &mut [u32],
 ) -> Shaped
     ensures { λ r. ⌜ (r ≡ madeFor (fitted (convertedShape shape (length (now (samples .entry))) rate) (length (now (out .entry)))))
-        × (now (out .exit) ≡ stored (madeAnswer (fitted (convertedShape shape (length (now (samples .entry))) rate) (length (now (out .entry))))) (convertedSamples shape (now (samples .entry)) rate) (now (out .entry))) ⌝ }
+        × (now (out .exit) ≡ stored (madeAnswer (fitted (convertedShape shape (length (now (samples .entry))) rate) (length (now (out .entry)))))
+        (convertedSamples shape (now (samples .entry)) rate) (now (out .entry))) ⌝ }
 {
     made_for(reshape::convert(shape, samples, rate, out))
 }

@@ -4,8 +4,8 @@ ghost use lib.ListN.{length};
 ghost use Rattle.clip.specs.Reading.{clipRead, framesRead, framesOut};
 ghost use Rattle.netthimble.specs.ForC.{clipFor, framesFor};
 use super::Shaped;
-use super::buffers::no_shape;
 use clip::ClipRead;
+use lent::no_shape;
 
 fn clip_for(read: ClipRead) -> Shaped
     ensures { λ r. ⌜ r ≡ clipFor read ⌝ }

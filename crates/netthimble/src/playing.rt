@@ -1,49 +1,20 @@
-// A fresh player, and the messages, by value.
+// A fresh player, and the messages, by value; the buffer call and the block, on the lent player,
+// which is altered there, as the Rust's `&mut self` does.
 ghost use mathlib.Core.Path.{_≡_};
-ghost use Rattle.player.specs.Messages.{made, handled};
-ghost use Rattle.netthimble.specs.Lent.{afterCall};
-ghost use Rattle.netthimble.specs.ForC.{nobody};
-use super::Told;
-use super::buffers::no_shape;
-use super::lent::after_call;
-use super::lent::message_by_value;
+ghost use lib.ListN.{length};
+ghost use Rattle.player.specs.Messages.{made, handled, buffered};
+ghost use Rattle.player.specs.Block.{rendered, output};
+ghost use Rattle.lent.specs.Lent.{afterCall, afterBlock};
+ghost use Rattle.lent.specs.Nobody.{nobody};
+use lent::BlockAnswer;
+use lent::Told;
+use lent::after_call;
+use lent::block_by_value;
+use lent::buffer_by_value;
+use lent::message_by_value;
+use lent::nobody;
 use player::ControlMessage;
-use player::LoopState;
 use player::Player;
-use player::RenderState;
-use seconds::BufferSeconds;
-use seconds::ContextSeconds;
-
-// The player that a refused rate is answered with.
-fn nobody() -> Player
-    ensures { λ r. ⌜ r ≡ nobody ⌝ }
-{
-    Player {
-        sample_rate: 0.0,
-        start_time: ContextSeconds(0.0),
-        stop_time: ContextSeconds(0.0),
-        offset: BufferSeconds(0.0),
-        duration: BufferSeconds(0.0),
-        loop_state: LoopState {
-            is_looping: false,
-            start: BufferSeconds(0.0),
-            end: BufferSeconds(0.0),
-        },
-        render_state: RenderState {
-            buffer_time: BufferSeconds(0.0),
-            started: false,
-            entered_loop: false,
-            buffer_time_elapsed: BufferSeconds(0.0),
-            is_aligned: false,
-            ended: true,
-        },
-        has_start: true,
-        has_buffer: true,
-        shape: no_shape(),
-        has_block: false,
-        block_time: ContextSeconds(0.0),
-    }
-}
 
 // A fresh player for an output rate.
 #[no_mangle]
@@ -91,6 +62,45 @@ pub extern "C" fn netthimble_loop_end(p: Player, at: f64) -> Told
     ensures { λ r. ⌜ r ≡ afterCall p (handled p (ControlMessage.LoopEnd at)) ⌝ }
 {
     message_by_value(p, ControlMessage::LoopEnd(at))
+}
+
+// Gives the player its clip: `channels` channels of `frames` frames, at `rate`, in `samples`.
+// Returns the number of its refusal, 0 for none.
+#[no_mangle]
+pub extern "C" fn netthimble_player_set_buffer(
+    p: &mut Player,
+    channels: usize,
+    frames: usize,
+    rate: f32,
+    samples: &[u32],
+) -> u32
+    ensures { λ r. ⌜ (r ≡ afterCall (now (p .entry)) (buffered (now (p .entry)) channels frames rate (length (now (samples .entry)))) .refusal)
+        × (now (p .exit) ≡ afterCall (now (p .entry)) (buffered (now (p .entry)) channels frames rate (length (now (samples .entry)))) .player) ⌝ }
+{
+    let r = buffer_by_value(*p, channels, frames, rate, samples);
+    *p = r.player;
+    r.refusal
+}
+
+// Renders a block into the lent output.
+#[no_mangle]
+pub extern "C" fn netthimble_player_process(
+    p: &mut Player,
+    out: &mut [u32],
+    samples: &[u32],
+    time: f64,
+    rate: f32,
+    factor: f64,
+) -> BlockAnswer
+    ensures { λ r. ⌜
+        (r ≡ afterBlock (now (p .entry)) (rendered 128 (now (p .entry)) (length (now (out .entry))) (length (now (samples .entry))) time rate factor) .answer)
+        × (now (p .exit)
+        ≡ afterBlock (now (p .entry)) (rendered 128 (now (p .entry)) (length (now (out .entry))) (length (now (samples .entry))) time rate factor) .player)
+        × (now (out .exit) ≡ output 128 (now (p .entry)) (now (out .entry)) (now (samples .entry)) time rate factor) ⌝ }
+{
+    let r = block_by_value(*p, out, samples, time, rate, factor);
+    *p = r.player;
+    r.answer
 }
 
 // The bytes of a player's record.

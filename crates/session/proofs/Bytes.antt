@@ -1,6 +1,6 @@
 -- A byte of the input, and bytes one after another. Assumes nothing.
 use mathlib.Core.Path.{_≡_, refl, sym, ap, _∙_}
-use mathlib.Core.Bool.{Bool, true, false, _&&_, cond}
+use mathlib.Core.Bool.{Bool, true, false, _&&_, cond, true≢false}
 use mathlib.Core.List.{List, [], _∷_, _++_, append-nil}
 use Prim.Native.Nat.{ℕ, zero, suc, _+_, _-_, _≤_, _<_, min}
 use native.Mathlib.Nat.{le-of-suc-le-suc, not-suc-le-zero}
@@ -12,14 +12,16 @@ use lib.ListN.{length, getD, take, drop, set, length-append, length-take, length
 use lib.Seq.{sets, length-sets, length-take-le, take-all, take-length, drop-cons}
 use Rattle.text.specs.Lines.{NEWLINE, blockRoom}
 use Rattle.text.proofs.Stores.{sets-append}
-use Rattle.session.specs.declared.Session.{Session}
-use Rattle.session.specs.declared.Answer.{Answer}
+use Rattle.obeying.specs.declared.Session.{Session}
+use Rattle.obeying.specs.declared.Answer.{Answer}
 use Rattle.session.specs.declared.State.{State}
 use Rattle.session.specs.declared.Taken.{Taken}
 use Rattle.session.specs.declared.Fed.{Fed}
-use Rattle.session.specs.Obeying.{reply, outcome, obeyed, answerOf}
+use Rattle.obeying.specs.declared.Obeyed.{Obeyed}
+use Rattle.obeying.specs.declared.Obeyed.the-variants.{Line, NoRoom}
+use Rattle.obeying.specs.Obeying.{reply, Outcome, outcome, obeyed, hasRoom, answerOf, answered, wordsAfter, outAfter}
 use Rattle.session.specs.Feeding.{Run, run, runOf, lineObeyed, ended, lengthened, extended, stepped, said, Progress, progress, advanced, feeding, goesOn, fed, finished, takenOf, fedOf}
-use Rattle.session.proofs.Lengths.{obeyed-fits}
+use Rattle.obeying.proofs.Lengths.{obeyed-fits}
 
 -- ---- lists
 -- the first k elements, if there are so many
@@ -70,6 +72,28 @@ room-left printed room h = go (leb blockRoom (room - printed)) (leb-true blockRo
 -- ---- a byte
 abbrev takenBy : Session → ℕ → ℕ → Taken
 takenBy s len printed = record { state = record { session = s; len = len }; printed = printed }
+
+-- what a line is answered where a block's text has room
+module _ (samples : List ℕ) (r : Run) (n : ℕ) (out words after : List ℕ) (x : Obeyed) (room : blockRoom ≤ length out)
+    (says : let o = obeyed samples (r .session) (r .words) (take n (r .line)) in
+    (x ≡ answered (hasRoom out) o) × (words ≡ wordsAfter (hasRoom out) o (r .words)) × (after ≡ outAfter (hasRoom out) o out)) where
+  abbrev o : Outcome
+  o = obeyed samples (r .session) (r .words) (take n (r .line))
+
+  with-room : (x ≡ Line (answerOf (o .reply))) × (words ≡ o .words) × (after ≡ sets out 0 (o .reply .text))
+  unfolding answered wordsAfter outAfter
+  with-room = rw (le-leb blockRoom (length out) room) at says
+
+  pub line-answered : (a : Answer) → x ≡ Line a → (a ≡ answerOf (o .reply)) × (words ≡ o .words) × (after ≡ sets out 0 (o .reply .text))
+  line-answered a is =
+      let all = with-room in
+      let e : Line a ≡ Line (answerOf (o .reply)) = sym is ∙ all .0 in
+      (cc, all .1, all .2)
+
+  pub never-without : {A : Type 0} → x ≡ NoRoom → A
+  never-without is =
+      let e : NoRoom ≡ Line (answerOf (o .reply)) = sym is ∙ with-room .0 in
+      absurd (true≢false cc)
 
 pub newline-taken : (samples : List ℕ) (r : Run) (b n : ℕ) (a : Answer) (words out after : List ℕ) → b ≡ NEWLINE → n ≡ min (r .len) (length (r .line))
     → a ≡ answerOf (obeyed samples (r .session) (r .words) (take n (r .line)) .reply) → words ≡ obeyed samples (r .session) (r .words) (take n (r .line)) .words

@@ -10,12 +10,12 @@ use borrow.Author.Tests.{ltb-true, ltb-false, leb-true, leb-false, eqb-true, eqb
 use lib.Dec.{leb, ltb, eqb}
 use lib.ListN.{length, take, drop, set, length-append, length-drop, length-set, take-append-drop}
 use lib.Seq.{take-all, take-nil, take-append-le, take-suc-set, set-out, length-take-le}
-use Rattle.text.specs.Commands.{command}
+use Rattle.commands.specs.Commands.{command}
 use Rattle.text.specs.Lines.{NEWLINE, blockRoom}
-use Rattle.text.specs.declared.Command.the-variants.{Unknown}
-use Rattle.session.specs.declared.Session.{Session}
+use Rattle.commands.specs.declared.Command.the-variants.{Unknown}
+use Rattle.obeying.specs.declared.Session.{Session}
 use Rattle.session.specs.declared.Fed.{Fed}
-use Rattle.session.specs.Obeying.{Outcome, obeyed}
+use Rattle.obeying.specs.Obeying.{Outcome, obeyed}
 use Rattle.session.specs.Feeding.{Run, run, lineObeyed, ended, lengthened, extended, stepped, said, Progress, progress, advanced, fitsBehind, feeding, fed, finished, fedOf, Moves}
 use Rattle.session.specs.Transcript.{linesFrom, texts}
 use Rattle.session.specs.Statement.{Call, left, bytes, printed, longEnough, AnyCalls, callsFor, callsOf, joined, WholeInput}

@@ -5,8 +5,8 @@ use Prim.Native.Nat.{ℕ, _+_, _≤_}
 use lib.Dec.{leb, ltb, eqb}
 use lib.ListN.{length, take, set}
 use Rattle.text.specs.Lines.{NEWLINE, blockRoom}
-use Rattle.session.specs.Obeying.{reply, Outcome, outcome, obeyed}
-use Rattle.session.specs.declared.Session.{Session}
+use Rattle.obeying.specs.Obeying.{reply, Outcome, outcome, obeyed}
+use Rattle.obeying.specs.declared.Session.{Session}
 use Rattle.session.specs.declared.State.{State}
 use Rattle.session.specs.declared.Taken.{Taken}
 use Rattle.session.specs.declared.Fed.{Fed}

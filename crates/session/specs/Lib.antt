@@ -1,5 +1,4 @@
--- What a run of `trial` does to the player and prints (document 01, '`trial`').
-pub mod Obeying
+-- What the bytes of an input do to the player and print (document 01, '`trial`').
 pub mod Feeding
 pub mod Transcript
 pub mod Statement

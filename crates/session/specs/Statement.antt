@@ -1,18 +1,15 @@
 -- What holds of a whole run: however an input is cut into chunks, and wherever `feed` stops for want of room, what is printed is the transcript of the
--- input; and the last number of a block that is counted is late enough.
+-- input.
 use mathlib.Core.Path.{_≡_}
 use mathlib.Core.List.{List, [], _∷_, _++_}
-use mathlib.Core.Bool.{true, cond}
+use mathlib.Core.Bool.{cond}
 use Prim.Native.Nat.{ℕ, zero, suc, _≤_}
 use lib.Dec.{eqb}
 use lib.ListN.{length, take, drop}
 use Rattle.text.specs.Lines.{blockRoom}
-use Rattle.buffer.specs.Limits.{validRate}
-use Rattle.buffer.specs.Refusals.{TIME}
-use Rattle.session.specs.Obeying.{sessionOf, refused, mostBlocks, nextNumber, played}
 use Rattle.session.specs.Feeding.{Run, run, fed, finished}
 use Rattle.session.specs.Transcript.{transcript}
-use Rattle.session.specs.declared.Session.{Session}
+use Rattle.obeying.specs.declared.Session.{Session}
 
 -- a call of `feed`: the bytes that are handed in, and the length of the lent output
 pub record Call : Type 0 where
@@ -70,12 +67,8 @@ joined (c ∷ cs) = c ++ joined cs
 abbrev pub WholeInput : Type 0
 WholeInput = (samples : List ℕ) (s : Session) (line words : List ℕ) (room : ℕ) (chunks : List (List ℕ)) → longEnough ≤ length line → blockRoom ≤ room
     → (let calls = callsOf samples room (run s line 0 words) chunks in
-    printed samples (run s line 0 words) calls ++ finished samples (left samples (run s line 0 words) calls) .reply .text ≡ transcript samples s words (joined chunks))
+    printed samples (run s line 0 words) calls ++ finished samples (left samples (run s line 0 words) calls) .reply .text
+    ≡ transcript samples s words (joined chunks))
 
 abbrev pub TranscriptOfChunks : Type 0
 TranscriptOfChunks = AnyCalls × WholeInput
-
--- `B` lines past the last number that is counted: refused with 13 at every allowed rate
-abbrev pub LateBlocks : Type 0
-LateBlocks = (samples : List ℕ) (s : Session) (words : List ℕ) → validRate (s .player .«sample_rate») ≡ true → length words ≡ 4096 → mostBlocks ≤ s .number
-    → played samples s words ≡ refused (sessionOf (s .player) (nextNumber (s .number))) TIME

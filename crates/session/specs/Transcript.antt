@@ -5,8 +5,8 @@ use Prim.Native.Nat.{ℕ}
 use lib.Dec.{eqb}
 use lib.ListN.{length}
 use Rattle.text.specs.Lines.{NEWLINE}
-use Rattle.session.specs.Obeying.{obeyed}
-use Rattle.session.specs.declared.Session.{Session}
+use Rattle.obeying.specs.Obeying.{obeyed}
+use Rattle.obeying.specs.declared.Session.{Session}
 
 -- the bytes up to each newline; a last line that lacks its newline counts if it isn't empty. `front` has gone before
 unfoldable pub linesFrom : List ℕ → List ℕ → List (List ℕ)

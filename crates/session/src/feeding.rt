@@ -4,14 +4,14 @@ ghost use Prim.Native.Nat.{_≤_, min};
 ghost use lib.ListN.{length, set};
 ghost use lib.Seq.{sets};
 ghost use Rattle.text.specs.Lines.{blockRoom};
-ghost use Rattle.session.specs.Obeying.{hasRoom, answered, wordsAfter, outAfter, written};
+ghost use Rattle.obeying.specs.Obeying.{hasRoom, answered, wordsAfter, outAfter, written};
 ghost use Rattle.session.specs.Feeding.{runOf, lengthened, stepped, said, goesOn, fed, finished, takenOf, fedOf, Moves};
-use super::Answer;
 use super::Fed;
-use super::Obeyed;
 use super::State;
 use super::Taken;
-use super::obeying::obey_line;
+use obeying::Answer;
+use obeying::Obeyed;
+use obeying::obey;
 use text::BLOCK_ROOM;
 
 const NEWLINE: u8 = 10;
@@ -54,7 +54,9 @@ fn take_byte(
     let len = state.len;
     if b == NEWLINE {
         let n = within(len, line.len());
-        let answer = obey_line(session, &line[..n], samples, words, out);
+        let Obeyed::Line(answer) = obey(session, &line[..n], samples, words, out) else {
+            return Taken { state, printed: 0 };
+        };
         let next = answer.session;
         return Taken {
             state: State {
@@ -94,7 +96,8 @@ pub fn feed(
     words: &mut [u32],
     out: &mut [u8],
 ) -> Fed
-    ensures { λ r. ⌜ (let f = fed (now (samples .entry)) (length (now (out .entry))) (runOf start (now (line .entry)) (now (words .entry))) (now (input .entry)) in
+    ensures { λ r. ⌜ (let f = fed (now (samples .entry)) (length (now (out .entry)))
+        (runOf start (now (line .entry)) (now (words .entry))) (now (input .entry)) in
         (r ≡ fedOf f) × (now (line .exit) ≡ f .run .line) × (now (words .exit) ≡ f .run .words) × (now (out .exit) ≡ sets (now (out .entry)) 0 (f .text))) ⌝ }
     ensures { λ r. ⌜ Moves (length (now (input .entry))) (length (now (out .entry))) r ⌝ }
 {
@@ -147,5 +150,5 @@ pub fn finish(
         });
     }
     let n = within(len, line.len());
-    Obeyed::Line(obey_line(session, &line[..n], samples, words, out))
+    obey(session, &line[..n], samples, words, out)
 }

@@ -1,31 +1,11 @@
-// A run of `trial` after its clip is read: what each line of the input does to the player and
-// prints, and how an input that comes in chunks is cut into lines.
+// A run of `trial` after its clip is read: how an input that comes in chunks is cut into lines,
+// each of which is obeyed (the crate `obeying`).
 mod feeding;
-mod obeying;
 
-ghost use Rattle.session.specs.Statement.{TranscriptOfChunks, LateBlocks};
+ghost use Rattle.session.specs.Statement.{TranscriptOfChunks};
 pub use feeding::feed;
 pub use feeding::finish;
-pub use obeying::obey;
-use player::Player;
-
-// The player, and the number of the next `B` line.
-pub struct Session {
-    pub player: Player,
-    pub number: usize,
-}
-
-// The session that a line leaves, and how many bytes it printed.
-pub struct Answer {
-    pub session: Session,
-    pub printed: usize,
-}
-
-// A line is obeyed only where any block's text has room in the output.
-pub enum Obeyed {
-    Line(Answer),
-    NoRoom,
-}
+use obeying::Session;
 
 // What is carried from byte to byte of the input: the session, and the length of the line so far.
 pub struct State {
@@ -50,9 +30,4 @@ pub struct Fed {
 // lines.
 pub fn transcript_of_chunks()
     ensures { λ _. ⌜ TranscriptOfChunks ⌝ }
-{}
-
-// A block past the last number that is counted is refused with 13 at every allowed rate.
-pub fn late_blocks()
-    ensures { λ _. ⌜ LateBlocks ⌝ }
 {}

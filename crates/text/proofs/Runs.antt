@@ -10,10 +10,10 @@ use borrow.Author.Tests.{eq-eqb, ne-eqb}
 use lib.Dec.{eqb}
 use lib.ListN.{length, getD, take, drop, length-append, length-drop, drop-of-length-le}
 use lib.Seq.{drop-cons, drop-drop}
-use Rattle.text.specs.Digits.{hex, decimalOf}
+use Rattle.commands.specs.Digits.{flag, hex, decimalOf}
 use Rattle.text.specs.Same.{same}
-use Rattle.text.specs.Lines.{field, runLine, runsFrom, runs, channelLines, flag, blockLine}
-use Rattle.text.proofs.OneDigit.{length-hex, length-decimal}
+use Rattle.text.specs.Lines.{field, runLine, runsFrom, runs, channelLines, blockLine}
+use Rattle.commands.proofs.OneDigit.{length-hex, length-decimal}
 
 -- ---- lengths
 pub length-field : (v after : ℕ) → length (field v after) ≤ 21

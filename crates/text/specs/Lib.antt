@@ -1,6 +1,3 @@
--- What the contracts of `text` cite: numbers as digits, the lines of a block, the lines that a program obeys, and that these are the commands' texts.
-pub mod Digits
+-- What the contracts of `text` cite: the lines of a block.
 pub mod Same
 pub mod Lines
-pub mod Commands
-pub mod Statement

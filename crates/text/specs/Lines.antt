@@ -5,12 +5,9 @@ use Prim.Native.Nat.{ℕ, zero, suc, _+_, _*_}
 use lib.Dec.{leb, eqb}
 use lib.ListN.{length, take, drop}
 use lib.Seq.{sets}
-use Rattle.text.specs.Digits.{hex, decimal}
+use Rattle.commands.specs.Digits.{SPACE, flag, hex, decimal}
 use Rattle.text.specs.declared.Printed.{Printed}
 use Rattle.text.specs.declared.Printed.the-variants.{Bytes, Refused}
-
-abbrev pub SPACE : ℕ
-SPACE = 32
 
 abbrev pub NEWLINE : ℕ
 NEWLINE = 10
@@ -38,10 +35,6 @@ runs channel first (x ∷ xs) = runsFrom channel first 1 x xs
 unfoldable pub channelLines : ℕ → ℕ → List ℕ → List ℕ
 channelLines zero c words = []
 channelLines (suc n) c words = runs c 0 (take 128 words) ++ channelLines n (c + 1) (drop 128 words)
-
--- a flag as 0 or 1
-abbrev pub flag : Bool → ℕ
-flag b = cond b 1 0
 
 -- '`B`, block number, keep-alive, ended, channels'
 unfoldable pub blockLine : ℕ → Bool → Bool → ℕ → List ℕ

@@ -1,10 +1,9 @@
-// Digits of numbers, written and read.
+// Digits of numbers, written.
 ghost use mathlib.Core.Path.{_≡_};
 ghost use Prim.Native.Nat.{_+_, _*_, _<_, _≤_};
-ghost use lib.ListN.{length, getD};
+ghost use lib.ListN.{length};
 ghost use lib.Seq.{sets};
-ghost use Rattle.text.specs.Digits.{digit, hex, decimalOf, digitValue, hexAt};
-use super::Number;
+ghost use Rattle.commands.specs.Digits.{digit, hex, decimalOf};
 
 // The byte of a digit below 16.
 fn digit(d: u8) -> u8
@@ -43,33 +42,4 @@ pub(crate) fn put_decimal(out: &mut [u8], at: usize, v: usize, places: usize) ->
     let next = put_decimal(out, at, v / 10, places - 1);
     out[next] = digit((v % 10) as u8);
     next + 1
-}
-
-// The value of a hex digit, and 16 of any other byte.
-fn digit_value(b: u8) -> u64
-    ensures { λ r. ⌜ r ≡ digitValue b ⌝ }
-{
-    match b {
-        48..=57 => (b - 48) as u64,
-        65..=70 => (b - 55) as u64,
-        _ => 16,
-    }
-}
-
-// Reads the 16 hex digits that stand from `at` on.
-pub(crate) fn read_hex(line: &[u8], at: usize) -> Number
-    requires { ⌜ at + 16 ≤ length (now line) ⌝ }
-    ensures { λ r. ⌜ r ≡ hexAt (now (line .entry)) at ⌝ }
-{
-    let mut v: u64 = 0;
-    let mut i = 0;
-    while i < 16 {
-        let d = digit_value(line[at + i]);
-        if d == 16 {
-            return Number::Nothing;
-        }
-        v = 16 * v + d;
-        i += 1;
-    }
-    Number::Value(v)
 }

@@ -4,7 +4,8 @@ ghost use Prim.Native.Nat.{_+_, _*_, _<_, _≤_};
 ghost use lib.Dec.{leb};
 ghost use lib.ListN.{length, getD, drop};
 ghost use lib.Seq.{sets};
-ghost use Rattle.text.specs.Lines.{field, runLine, runs, channelLines, flag, blockLine, blockText, refusalText, fits, printed, printedOut};
+ghost use Rattle.commands.specs.Digits.{flag};
+ghost use Rattle.text.specs.Lines.{field, runLine, runs, channelLines, blockLine, blockText, refusalText, fits, printed, printedOut};
 ghost use Rattle.text.specs.Same.{same};
 use super::Printed;
 use super::digits::put_decimal;
@@ -37,7 +38,8 @@ fn put_run(
     bits: u32,
 ) -> usize
     requires { ⌜ at + 72 ≤ length (now out) ⌝ }
-    ensures { λ r. ⌜ (r ≡ at + length (runLine channel first count bits)) × (now (out .exit) ≡ sets (now (out .entry)) at (runLine channel first count bits)) ⌝ }
+    ensures { λ r. ⌜ (r ≡ at + length (runLine channel first count bits))
+        × (now (out .exit) ≡ sets (now (out .entry)) at (runLine channel first count bits)) ⌝ }
 {
     let a = put_field(out, at, channel, SPACE);
     let b = put_field(out, a, first, SPACE);
@@ -65,7 +67,8 @@ fn run_length(words: &[u32], first: usize) -> usize
 // Stores the lines of a channel's words.
 fn put_runs(out: &mut [u8], start: usize, channel: usize, words: &[u32]) -> usize
     requires { ⌜ start + 72 * length (now words) ≤ length (now out) ⌝ }
-    ensures { λ r. ⌜ (r ≡ start + length (runs channel 0 (now (words .entry)))) × (now (out .exit) ≡ sets (now (out .entry)) start (runs channel 0 (now (words .entry)))) ⌝ }
+    ensures { λ r. ⌜ (r ≡ start + length (runs channel 0 (now (words .entry))))
+        × (now (out .exit) ≡ sets (now (out .entry)) start (runs channel 0 (now (words .entry)))) ⌝ }
 {
     let mut at = start;
     let mut first = 0;
@@ -80,7 +83,8 @@ fn put_runs(out: &mut [u8], start: usize, channel: usize, words: &[u32]) -> usiz
 // Stores the lines of 32 channels' words, up to `channels`.
 fn put_channels(out: &mut [u8], start: usize, channels: usize, words: &[u32]) -> usize
     requires { ⌜ (channels ≤ 32) × (length (now words) ≡ 4096) × (start + 72 * 4096 ≤ length (now out)) ⌝ }
-    ensures { λ r. ⌜ (r ≡ start + length (channelLines channels 0 (now (words .entry)))) × (now (out .exit) ≡ sets (now (out .entry)) start (channelLines channels 0 (now (words .entry)))) ⌝ }
+    ensures { λ r. ⌜ (r ≡ start + length (channelLines channels 0 (now (words .entry))))
+        × (now (out .exit) ≡ sets (now (out .entry)) start (channelLines channels 0 (now (words .entry)))) ⌝ }
 {
     let mut at = start;
     let mut c = 0;
@@ -106,7 +110,8 @@ fn put_block_line(
     channels: usize,
 ) -> usize
     requires { ⌜ 128 ≤ length (now out) ⌝ }
-    ensures { λ r. ⌜ (r ≡ length (blockLine number «keep_alive» ended channels)) × (now (out .exit) ≡ sets (now (out .entry)) 0 (blockLine number «keep_alive» ended channels)) ⌝ }
+    ensures { λ r. ⌜ (r ≡ length (blockLine number «keep_alive» ended channels))
+        × (now (out .exit) ≡ sets (now (out .entry)) 0 (blockLine number «keep_alive» ended channels)) ⌝ }
 {
     out[0] = b'B';
     out[1] = SPACE;
@@ -125,8 +130,10 @@ pub fn block_text(
     words: &[u32],
     out: &mut [u8],
 ) -> Printed
-    ensures { λ r. ⌜ (r ≡ printed (fits channels (length (now (words .entry))) (length (now (out .entry)))) (blockText number «keep_alive» ended channels (now (words .entry))))
-        × (now (out .exit) ≡ printedOut (fits channels (length (now (words .entry))) (length (now (out .entry)))) (blockText number «keep_alive» ended channels (now (words .entry))) (now (out .entry))) ⌝ }
+    ensures { λ r. ⌜ (r ≡ printed (fits channels (length (now (words .entry))) (length (now (out .entry))))
+        (blockText number «keep_alive» ended channels (now (words .entry))))
+        × (now (out .exit) ≡ printedOut (fits channels (length (now (words .entry))) (length (now (out .entry))))
+        (blockText number «keep_alive» ended channels (now (words .entry))) (now (out .entry))) ⌝ }
 {
     if channels > 32 {
         return Printed::Refused;

@@ -1,5 +1,5 @@
-// Plays the clip of clip.bin as the lines of standard input say. What the lines do and print is the
-// crate `session`'s; here it is read and written.
+// Plays the clip of clip.bin as the lines of standard input say. What the lines do and print is said
+// in the crates `obeying` and `session`; here it is read and written.
 ghost use mathlib.Core.Path.{_≡_};
 ghost use Prim.Native.Nat.{_≤_};
 ghost use lib.ListN.{length};
@@ -9,10 +9,10 @@ use buffer::refusals;
 use clip::ClipRead;
 use libc::STDIN_FILENO;
 use libc::STDOUT_FILENO;
+use obeying::Obeyed;
+use obeying::Session;
 use player::Handled;
 use player::Player;
-use session::Obeyed;
-use session::Session;
 use session::State;
 
 // Room for what is printed before it is written: a block's text, and as much again, so that much

@@ -56,14 +56,35 @@ add-if5-2 c = omega (arith, rows-bound (c .before .u32-at .result) (c .before .b
 
 returns-5 : tie.Need-returns-5
 unfolding isLayout
-returns-5 c = simp (le-leb _ _ (c .before .before .before .before .before .before .before .if1 .left), le-leb _ _ (c .before .before .before .before .before .before .if2 .left), sym (c .before .before .before .before .before .u16-at .ensures .0), sym (c .before .before .before .before .u16-at2 .ensures .0), eq-eqb _ _ (c .before .before .before .if3 .left), sym (c .before .before .u32-at .ensures .0), le-leb _ _ (c .before .if4 .left), ne-eqb _ _ (c .if5 .taken))
+returns-5 c =
+    simp (
+      le-leb _ _ (c .before .before .before .before .before .before .before .if1 .left),
+      le-leb _ _ (c .before .before .before .before .before .before .if2 .left),
+      sym (c .before .before .before .before .before .u16-at .ensures .0),
+      sym (c .before .before .before .before .u16-at2 .ensures .0),
+      eq-eqb _ _ (c .before .before .before .if3 .left),
+      sym (c .before .before .u32-at .ensures .0),
+      le-leb _ _ (c .before .if4 .left),
+      ne-eqb _ _ (c .if5 .taken),
+    )
 
 offsets-match-requires : tie.Need-offsets-match-requires
 offsets-match-requires c κs = search needs
 
 returns-6 : tie.Need-returns-6
 unfolding isLayout
-returns-6 c = simp (le-leb _ _ (c .before .before .before .before .before .before .before .before .if1 .left), le-leb _ _ (c .before .before .before .before .before .before .before .if2 .left), sym (c .before .before .before .before .before .before .u16-at .ensures .0), sym (c .before .before .before .before .before .u16-at2 .ensures .0), eq-eqb _ _ (c .before .before .before .before .if3 .left), sym (c .before .before .before .u32-at .ensures .0), le-leb _ _ (c .before .before .if4 .left), eq-eqb _ _ (c .before .if5 .left)) (c .offsets-match .ensures)
+returns-6 c =
+    simp (
+      le-leb _ _ (c .before .before .before .before .before .before .before .before .if1 .left),
+      le-leb _ _ (c .before .before .before .before .before .before .before .if2 .left),
+      sym (c .before .before .before .before .before .before .u16-at .ensures .0),
+      sym (c .before .before .before .before .before .u16-at2 .ensures .0),
+      eq-eqb _ _ (c .before .before .before .before .if3 .left),
+      sym (c .before .before .before .u32-at .ensures .0),
+      le-leb _ _ (c .before .before .if4 .left),
+      eq-eqb _ _ (c .before .if5 .left),
+    )
+    (c .offsets-match .ensures)
 
 pub is-layout-spec : {M : Type 1} → statement M
 is-layout-spec =

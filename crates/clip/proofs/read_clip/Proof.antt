@@ -44,7 +44,19 @@ is-valid-sample-rate-requires c κs = search needs
 
 returns-3 : tie.Need-returns-3
 unfolding clipRead
-returns-3 c = simp (sym (c .before .before .before .before .before .before .before .before .before .is-layout .ensures), c .before .before .before .before .before .before .before .before .if1 .left, sym (c .before .before .before .before .before .before .before .u16-at .ensures .0), sym (c .before .before .before .before .before .before .u32-at .ensures .0), sym (c .before .before .before .before .before .is-valid-shape .ensures), c .before .before .before .before .if2 .left, sym (c .before .before .before .u32-at2 .ensures .0), sym (c .before .before .from-pattern .ensures), sym (c .before .is-valid-sample-rate .ensures), c .if3 .taken)
+returns-3 c =
+    simp (
+      sym (c .before .before .before .before .before .before .before .before .before .is-layout .ensures),
+      c .before .before .before .before .before .before .before .before .if1 .left,
+      sym (c .before .before .before .before .before .before .before .u16-at .ensures .0),
+      sym (c .before .before .before .before .before .before .u32-at .ensures .0),
+      sym (c .before .before .before .before .before .is-valid-shape .ensures),
+      c .before .before .before .before .if2 .left,
+      sym (c .before .before .before .u32-at2 .ensures .0),
+      sym (c .before .before .from-pattern .ensures),
+      sym (c .before .is-valid-sample-rate .ensures),
+      c .if3 .taken,
+    )
 
 mul-t9 : tie.Need-mul-t9
 mul-t9 c = search needs
@@ -54,7 +66,19 @@ add-t10 c = search needs
 
 returns-4 : tie.Need-returns-4
 unfolding clipRead
-returns-4 c = simp (sym (c .before .before .before .before .before .before .before .before .before .is-layout .ensures), c .before .before .before .before .before .before .before .before .if1 .left, sym (c .before .before .before .before .before .before .before .u16-at .ensures .0), sym (c .before .before .before .before .before .before .u32-at .ensures .0), sym (c .before .before .before .before .before .is-valid-shape .ensures), c .before .before .before .before .if2 .left, sym (c .before .before .before .u32-at2 .ensures .0), sym (c .before .before .from-pattern .ensures), sym (c .before .is-valid-sample-rate .ensures), c .if3 .left)
+returns-4 c =
+    simp (
+      sym (c .before .before .before .before .before .before .before .before .before .is-layout .ensures),
+      c .before .before .before .before .before .before .before .before .if1 .left,
+      sym (c .before .before .before .before .before .before .before .u16-at .ensures .0),
+      sym (c .before .before .before .before .before .before .u32-at .ensures .0),
+      sym (c .before .before .before .before .before .is-valid-shape .ensures),
+      c .before .before .before .before .if2 .left,
+      sym (c .before .before .before .u32-at2 .ensures .0),
+      sym (c .before .before .from-pattern .ensures),
+      sym (c .before .is-valid-sample-rate .ensures),
+      c .if3 .left,
+    )
 
 pub read-clip-spec : {M : Type 1} → statement M
 read-clip-spec =

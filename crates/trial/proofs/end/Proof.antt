@@ -2,7 +2,7 @@
 use mathlib.Core.Path.{sym, ap}
 use native.Mathlib.Omega.{arith}
 use lib.Seq.{length-take-le}
-use Rattle.session.specs.Obeying.{written}
+use Rattle.obeying.specs.Obeying.{written}
 use borrow.Author.Needs.{needs}
 use Rattle.trial.proofs.end.Statement.{statement}
 use Rattle.trial.proofs.end.Tie as tie

@@ -46,18 +46,53 @@ write-all-requires : tie.Need-write-all-requires Inv-loop μ-loop
 write-all-requires c κs = search needs
 
 add-at : tie.Need-add-at Inv-loop μ-loop
-add-at c = record { fits = omega (arith, c .before .before .before .before .before .before .before .before .before .before .feed .ensures .1 .taken, rest (c .before .before .before .before .before .before .before .before .before .before .before .before .before .before .before .before .before .before .before .before .before .before .args .input .now) (c .before .before .before .before .before .before .before .before .before .before .before .before .before .before .before .before .loop .at), c .before .before .before .before .before .before .before .before .before .before .before .before .before .before .before .before .loop .inv .0, c .before .before .before .before .before .before .before .before .before .before .before .before .before .before .before .before .loop .inv .2) }
+add-at c =
+    record {
+      fits = omega (
+        arith,
+        c .before .before .before .before .before .before .before .before .before .before .feed .ensures .1 .taken,
+        rest
+            (c .before .before .before .before .before .before .before .before .before .before .before .before .before .before .before .before .before .before .before .before .before .before .args .input .now)
+            (c .before .before .before .before .before .before .before .before .before .before .before .before .before .before .before .before .loop .at),
+        c .before .before .before .before .before .before .before .before .before .before .before .before .before .before .before .before .loop .inv .0,
+        c .before .before .before .before .before .before .before .before .before .before .before .before .before .before .before .before .loop .inv .2,
+      );
+    }
 
 loop-less : tie.Need-loop-less Inv-loop μ-loop
 loop-less c =
-    let some = c .before .before .before .before .before .before .before .before .before .before .feed .ensures .1 .some (omega (arith, rest (c .before .before .before .before .before .before .before .before .before .before .before .before .before .before .before .before .before .before .before .before .before .before .args .input .now) (c .before .before .before .before .before .before .before .before .before .before .before .before .before .before .before .before .loop .at))) (omega (arith, c .before .before .before .before .before .before .before .before .before .before .before .before .before .before .before .before .loop .inv .1, c .before .before .before .before .before .before .before .before .before .before .before .before .before .before .before .before .loop .inv .5)) in
-    omega (arith, c .before .before .before .before .before .before .before .before .before .before .feed .ensures .1 .taken, rest (c .before .before .before .before .before .before .before .before .before .before .before .before .before .before .before .before .before .before .before .before .before .before .args .input .now) (c .before .before .before .before .before .before .before .before .before .before .before .before .before .before .before .before .loop .at))
+    let some = c .before .before .before .before .before .before .before .before .before .before .feed .ensures .1 .some
+    (omega (
+      arith,
+      rest
+          (c .before .before .before .before .before .before .before .before .before .before .before .before .before .before .before .before .before .before .before .before .before .before .args .input .now)
+          (c .before .before .before .before .before .before .before .before .before .before .before .before .before .before .before .before .loop .at),
+    ))
+    (omega (
+      arith,
+      c .before .before .before .before .before .before .before .before .before .before .before .before .before .before .before .before .loop .inv .1,
+      c .before .before .before .before .before .before .before .before .before .before .before .before .before .before .before .before .loop .inv .5,
+    )) in
+    omega (
+      arith,
+      c .before .before .before .before .before .before .before .before .before .before .feed .ensures .1 .taken,
+      rest
+          (c .before .before .before .before .before .before .before .before .before .before .before .before .before .before .before .before .before .before .before .before .before .before .args .input .now)
+          (c .before .before .before .before .before .before .before .before .before .before .before .before .before .before .before .before .loop .at),
+    )
 
 loop-again : tie.Need-loop-again Inv-loop μ-loop
 loop-again c = (
   c .before .before .before .before .before .before .before .before .before .before .before .before .before .before .before .before .loop .inv .0,
   c .before .before .before .before .before .before .before .before .before .before .before .before .before .before .before .before .loop .inv .1,
-  omega (arith, c .before .before .before .before .before .before .before .before .before .before .feed .ensures .1 .taken, rest (c .before .before .before .before .before .before .before .before .before .before .before .before .before .before .before .before .before .before .before .before .before .before .args .input .now) (c .before .before .before .before .before .before .before .before .before .before .before .before .before .before .before .before .loop .at), c .before .before .before .before .before .before .before .before .before .before .before .before .before .before .before .before .loop .inv .2),
+  omega (
+    arith,
+    c .before .before .before .before .before .before .before .before .before .before .feed .ensures .1 .taken,
+    rest
+        (c .before .before .before .before .before .before .before .before .before .before .before .before .before .before .before .before .before .before .before .before .before .before .args .input .now)
+        (c .before .before .before .before .before .before .before .before .before .before .before .before .before .before .before .before .loop .at),
+    c .before .before .before .before .before .before .before .before .before .before .before .before .before .before .before .before .loop .inv .2,
+  ),
   c .before .before .before .before .before .before .before .before .before .before .feed .kept .1 .1 .0 ∙ c .before .before .before .before .before .before .before .before .before .before .before .before .before .before .before .before .loop .inv .3,
   c .before .before .before .before .before .before .before .before .before .before .feed .kept .1 .1 .1 .1 .0 ∙ c .before .before .before .before .before .before .before .before .before .before .before .before .before .before .before .before .loop .inv .4,
   c .before .before .before .before .before .before .before .before .before .before .feed .kept .1 .1 .1 .1 .1 .0 ∙ c .before .before .before .before .before .before .before .before .before .before .before .before .before .before .before .before .loop .inv .5,

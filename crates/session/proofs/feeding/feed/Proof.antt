@@ -51,7 +51,12 @@ add-printed : tie.Need-add-printed Inv-loop μ-loop
 add-printed c =
     let on = goes-on _ _ _ _ _ (c .before .before .before .before .before .before .before .before .before .before .before .before .before .before .goes-on .ensures) (c .before .before .before .before .before .before .before .before .before .before .before .before .before .if1 .taken) in
     let whole = reached-length _ _ _ _ _ _ _ _ _ _ (c .before .before .before .before .before .before .before .before .before .before .before .before .before .before .before .loop .inv .5) in
-    let fits = step-fits _ (runOf (c .before .before .before .before .before .before .before .before .before .before .before .before .before .before .before .loop .state) (c .before .before .before .before .before .before .before .before .before .before .before .before .before .before .before .loop .line) (c .before .before .before .before .before .before .before .before .before .before .before .before .before .before .before .loop .words)) _ (c .before .before .before .before .before .before .before .before .before .before .before .before .before .before .before .loop .printed) _ _ (c .before .before .before .before .before .before .before .before .take-byte .ensures .0) (on .1) in
+    let fits = step-fits _
+    (runOf (c .before .before .before .before .before .before .before .before .before .before .before .before .before .before .before .loop .state)
+    (c .before .before .before .before .before .before .before .before .before .before .before .before .before .before .before .loop .line)
+    (c .before .before .before .before .before .before .before .before .before .before .before .before .before .before .before .loop .words)) _
+    (c .before .before .before .before .before .before .before .before .before .before .before .before .before .before .before .loop .printed) _ _
+    (c .before .before .before .before .before .before .before .before .take-byte .ensures .0) (on .1) in
     record { fits = omega (arith, c .before .before .before .before .before .before .before .before .before .before .before .before .before .before .before .loop .inv .1) }
 
 add-taken : tie.Need-add-taken Inv-loop μ-loop
@@ -71,7 +76,11 @@ loop-again c =
     let step = c .before .before .before .before .before .before .before .before .take-byte .ensures in (
       c .before .before .before .before .before .before .before .before .before .before .before .before .before .before .before .loop .inv .0,
       c .before .before .before .before .before .before .before .before .before .before .before .before .before .before .before .loop .inv .1,
-      rw whole at (step-fits _ (runOf (c .before .before .before .before .before .before .before .before .before .before .before .before .before .before .before .loop .state) (c .before .before .before .before .before .before .before .before .before .before .before .before .before .before .before .loop .line) (c .before .before .before .before .before .before .before .before .before .before .before .before .before .before .before .loop .words)) _ (c .before .before .before .before .before .before .before .before .before .before .before .before .before .before .before .loop .printed) _ _ (step .0) (on .1)),
+      rw whole at (step-fits _
+          (runOf (c .before .before .before .before .before .before .before .before .before .before .before .before .before .before .before .loop .state)
+          (c .before .before .before .before .before .before .before .before .before .before .before .before .before .before .before .loop .line)
+          (c .before .before .before .before .before .before .before .before .before .before .before .before .before .before .before .loop .words)) _
+          (c .before .before .before .before .before .before .before .before .before .before .before .before .before .before .before .loop .printed) _ _ (step .0) (on .1)),
       c .before .before .before .before .before .before .before .before .take-byte .kept .1 .1 .0 ∙ c .before .before .before .before .before .before .before .before .before .before .before .before .before .before .before .loop .inv .3,
       c .before .before .before .before .before .before .before .before .take-byte .kept .1 .1 .1 .1 .0 ∙ c .before .before .before .before .before .before .before .before .before .before .before .before .before .before .before .loop .inv .4,
       reached-more _ _ _ _ _ _ _ _ _ _ _ _ _ _ _ (c .before .before .before .before .before .before .before .before .before .before .before .before .before .before .before .loop .inv .5) (on .0) (on .1) (step .0) (step .1) (step .2) (step .3) refl,

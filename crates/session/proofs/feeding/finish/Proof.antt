@@ -1,12 +1,10 @@
 -- `session::feeding::finish` meets its contract. Assumes nothing.
-use mathlib.Core.Path.{refl, ap}
+use mathlib.Core.Path.{refl}
 use borrow.Author.Tests.{le-leb, lt-leb}
-use Rattle.session.specs.declared.Obeyed.the-variants.{Line}
-use Rattle.session.specs.Obeying.{answered, wordsAfter, outAfter}
+use Rattle.obeying.specs.Obeying.{answered, wordsAfter, outAfter}
 use Rattle.session.specs.Feeding.{runOf}
 use Rattle.session.proofs.Bytes.{length-within, nothing-left, line-left}
 use native.Mathlib.Omega.{arith}
-use Rattle.session.proofs.Lengths.{answer-fits}
 use borrow.Author.Needs.{needs}
 use Rattle.session.proofs.feeding.finish.Statement.{statement}
 use Rattle.session.proofs.feeding.finish.Tie as tie
@@ -24,11 +22,11 @@ returns-2 c =
 within-requires : tie.Need-within-requires
 within-requires c κs = search needs
 
-slice-aggregate-obey-line : tie.Need-slice-aggregate-obey-line
-slice-aggregate-obey-line c = length-within _ _ _ (c .before .within .ensures)
+slice-aggregate-obey : tie.Need-slice-aggregate-obey
+slice-aggregate-obey c = length-within _ _ _ (c .before .within .ensures)
 
-obey-line-requires : tie.Need-obey-line-requires
-obey-line-requires c κs = search needs
+obey-requires : tie.Need-obey-requires
+obey-requires c κs = search needs
 
 same-length : tie.Need-same-length
 same-length c = search needs
@@ -37,10 +35,17 @@ same-length-2 : tie.Need-same-length-2
 same-length-2 c = search needs
 
 returns-3 : tie.Need-returns-3
-unfolding answered wordsAfter outAfter
 returns-3 c =
-    let e = line-left (c .before .before .before .before .before .before .before .before .before .before .before .before .before .before .before .before .args .samples .now) (runOf (c .before .before .before .before .before .before .before .before .before .before .before .before .before .before .before .before .args .state) (c .before .before .before .before .before .before .before .before .before .before .before .before .before .before .before .before .args .line .now) (c .before .before .before .before .before .before .before .before .before .before .before .before .before .before .before .before .args .words .now)) _ (c .before .before .before .before .before .before .before .before .before .if2 .left) (c .before .before .before .before .before .before .before .before .within .ensures) in
-    simp (le-leb _ _ (c .before .before .before .before .before .before .before .before .before .before .before .if1 .left), e) ((ap Line (c .before .before .before .before .obey-line .ensures .0), c .before .before .before .before .obey-line .ensures .1, c .before .before .before .before .obey-line .ensures .2), answer-fits _ _ _ _ _ _ (c .before .before .before .before .obey-line .ensures .0) (c .before .before .before .before .before .before .before .before .before .before .before .if1 .left))
+    let e =
+    line-left
+    (c .before .before .before .before .before .before .before .before .before .before .before .before .before .before .before .before .args .samples .now)
+    (runOf (c .before .before .before .before .before .before .before .before .before .before .before .before .before .before .before .before .args .state)
+    (c .before .before .before .before .before .before .before .before .before .before .before .before .before .before .before .before .args .line .now)
+    (c .before .before .before .before .before .before .before .before .before .before .before .before .before .before .before .before .args .words .now))
+    _
+    (c .before .before .before .before .before .before .before .before .before .if2 .left)
+    (c .before .before .before .before .before .before .before .before .within .ensures) in
+    rw e (c .before .before .before .before .obey .ensures)
 
 pub finish-spec : {M : Type 1} → statement M
 finish-spec =
@@ -49,8 +54,8 @@ finish-spec =
     returns
     returns-2
     within-requires
-    slice-aggregate-obey-line
-    obey-line-requires
+    slice-aggregate-obey
+    obey-requires
     same-length
     same-length-2
     returns-3)

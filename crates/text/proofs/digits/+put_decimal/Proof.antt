@@ -6,8 +6,8 @@ use native.Mathlib.Omega.{arith}
 use lib.ListN.{length, set, length-append, length-set}
 use lib.Seq.{sets}
 use borrow.Author.Needs.{needs}
-use Rattle.text.specs.Digits.{digit, decimalOf}
-use Rattle.text.proofs.OneDigit.{decimal-one, decimal-more, length-decimal}
+use Rattle.commands.specs.Digits.{digit, decimalOf}
+use Rattle.commands.proofs.OneDigit.{decimal-one, decimal-more, length-decimal}
 use Rattle.text.proofs.Stores.{stored}
 use Prim.Native.Nat.{ℕ, _<_}
 use borrow.Fn.Kinds.{In}
@@ -85,7 +85,12 @@ put-decimal-returns-2 : (t : ℕ) → put-decimal-lts.Need-returns-2 (
   put-decimal-below t,
   put-decimal.Post,
 ) (put-decimal-at t) put-decimal.Post
-put-decimal-returns-2 t c = let e = decimal-one (c .before .before .before .before .args .places) (c .before .before .before .before .args .v) (omega arith) (omega arith) in (omega (arith, ap length e), ap (set (c .before .before .before .before .args .out .now) (c .before .before .before .before .args .at)) (c .digit .ensures) ∙ sym (ap (λ (l : List ℕ). sets (c .before .before .before .before .args .out .now) (c .before .before .before .before .args .at) l) e))
+put-decimal-returns-2 t c =
+    let e = decimal-one (c .before .before .before .before .args .places) (c .before .before .before .before .args .v) (omega arith) (omega arith) in (
+      omega (arith, ap length e),
+      ap (set (c .before .before .before .before .args .out .now) (c .before .before .before .before .args .at)) (c .digit .ensures)
+          ∙ sym (ap (λ (l : List ℕ). sets (c .before .before .before .before .args .out .now) (c .before .before .before .before .args .at) l) e),
+    )
 
 put-decimal-sub-put-decimal : (t : ℕ) → put-decimal-lts.Need-sub-put-decimal (
   digit-reads.Asked,
@@ -154,7 +159,9 @@ put-decimal-returns-3 t c =
     let e = decimal-more (c .before .before .before .before .before .before .before .before .args .places) (c .before .before .before .before .before .before .before .before .args .v) (omega arith) (omega arith) in (
       omega (arith, ap length e, length-append less (digit (c .before .before .before .before .before .before .before .before .args .v % 10) ∷ []), c .before .before .before .put-decimal .ensures .0),
       ap (set (c .before .before .before .put-decimal .last .0) (c .before .before .before .put-decimal .result)) (c .digit2 .ensures)
-          ∙ sym (ap (λ (l : List ℕ). sets (c .before .before .before .before .before .before .before .before .args .out .now) (c .before .before .before .before .before .before .before .before .args .at) l) e ∙ stored less (digit (c .before .before .before .before .before .before .before .before .args .v % 10) ∷ []) _ _ _ _ (c .before .before .before .put-decimal .ensures .1) (c .before .before .before .put-decimal .ensures .0)),
+          ∙ sym (ap (λ (l : List ℕ). sets (c .before .before .before .before .before .before .before .before .args .out .now) (c .before .before .before .before .before .before .before .before .args .at) l) e
+          ∙ stored less (digit (c .before .before .before .before .before .before .before .before .args .v % 10) ∷ []) _ _ _ _ (c .before .before .before .put-decimal .ensures .1)
+          (c .before .before .before .put-decimal .ensures .0)),
     )
 
 pub +put-decimal-spec : {M : Type 1} → statement M

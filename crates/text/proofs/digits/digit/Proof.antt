@@ -1,6 +1,6 @@
 -- `text::digits::digit` meets its contract. Assumes nothing.
 use borrow.Author.Tests.{lt-ltb, le-ltb}
-use Rattle.text.specs.Digits.{digit}
+use Rattle.commands.specs.Digits.{digit}
 use borrow.Author.Needs.{needs}
 use Rattle.text.proofs.digits.digit.Statement.{statement}
 use Rattle.text.proofs.digits.digit.Tie as tie

@@ -5,8 +5,8 @@ use native.Mathlib.Omega.{arith}
 use lib.ListN.{length, length-set}
 use lib.Seq.{sets}
 use borrow.Author.Needs.{needs}
-use Rattle.text.specs.Digits.{hex}
-use Rattle.text.proofs.OneDigit.{hex-turn}
+use Rattle.commands.specs.Digits.{hex}
+use Rattle.commands.proofs.OneDigit.{hex-turn}
 use Rattle.text.proofs.digits.put_hex.Statement.{statement}
 use Rattle.text.proofs.digits.put_hex.Tie as tie
 

@@ -28,7 +28,10 @@ put-block-line-requires c κs = search needs
 
 put-channels-requires : tie.Need-put-channels-requires
 put-channels-requires c κs =
-    let short = length-block (c .before .before .before .before .before .before .before .before .before .before .args .number) (c .before .before .before .before .before .before .before .before .before .before .args .channels) (c .before .before .before .before .before .before .before .before .before .before .args .keep-alive) (c .before .before .before .before .before .before .before .before .before .before .args .ended) in
+    let short = length-block (c .before .before .before .before .before .before .before .before .before .before .args .number)
+    (c .before .before .before .before .before .before .before .before .before .before .args .channels)
+    (c .before .before .before .before .before .before .before .before .before .before .args .keep-alive)
+    (c .before .before .before .before .before .before .before .before .before .before .args .ended) in
     (omega arith, omega arith, omega (arith, short, c .before .before .before .put-block-line .ensures .0, c .before .before .before .put-block-line .kept .0))
 
 same-length : tie.Need-same-length
@@ -37,7 +40,10 @@ same-length c = c .before .before .put-channels .kept .0 ∙ c .before .before .
 returns-4 : tie.Need-returns-4
 unfolding fits printed printedOut blockText
 returns-4 c =
-    let line = blockLine (c .before .before .before .before .before .before .before .before .before .before .before .before .before .args .number) (c .before .before .before .before .before .before .before .before .before .before .before .before .before .args .keep-alive) (c .before .before .before .before .before .before .before .before .before .before .before .before .before .args .ended) (c .before .before .before .before .before .before .before .before .before .before .before .before .before .args .channels) in
+    let line = blockLine (c .before .before .before .before .before .before .before .before .before .before .before .before .before .args .number)
+    (c .before .before .before .before .before .before .before .before .before .before .before .before .before .args .keep-alive)
+    (c .before .before .before .before .before .before .before .before .before .before .before .before .before .args .ended)
+    (c .before .before .before .before .before .before .before .before .before .before .before .before .before .args .channels) in
     let lines = channelLines (c .before .before .before .before .before .before .before .before .before .before .before .before .before .args .channels) 0 (c .before .before .before .before .before .before .before .before .before .before .before .before .before .args .words .now) in
     simp (le-leb _ _ (c .before .before .before .before .before .before .before .before .before .before .if1 .left), eq-eqb _ _ (c .before .before .before .before .before .before .before .before .before .if2 .left), le-leb _ _ (c .before .before .before .before .before .before .before .before .if3 .left)) (
       ap Bytes (omega (arith, length-append line lines, c .before .before .before .before .before .before .put-block-line .ensures .0, c .before .before .put-channels .ensures .0)),

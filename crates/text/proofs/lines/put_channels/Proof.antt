@@ -69,7 +69,9 @@ loop-again c =
       c .before .before .put-runs .kept .0 ∙ c .before .before .before .before .before .before .loop .inv .1,
       omega (arith, grown, length-runs k 0 part, ap length own, full),
       omega (arith, c .before .before .before .before .before .before .loop .inv .3, ap length next, length-append (runs k 0 part) rest, grown),
-      sym (ap (λ (l : List ℕ). sets (c .before .before .before .before .before .before .loop .out) (c .before .before .before .before .before .before .loop .at) l) next ∙ stored (runs k 0 part) rest (c .before .before .before .before .before .before .loop .out) _ (c .before .before .before .before .before .before .loop .at) _ put grown) ∙ c .before .before .before .before .before .before .loop .inv .4,
+      sym (ap (λ (l : List ℕ). sets (c .before .before .before .before .before .before .loop .out) (c .before .before .before .before .before .before .loop .at) l) next
+          ∙ stored (runs k 0 part) rest (c .before .before .before .before .before .before .loop .out) _ (c .before .before .before .before .before .before .loop .at) _ put grown)
+          ∙ c .before .before .before .before .before .before .loop .inv .4,
     )
 
 same-length : tie.Need-same-length Inv-loop μ-loop

@@ -3,9 +3,9 @@ use mathlib.Core.Path.{sym}
 use mathlib.Core.List.{[], _∷_}
 use native.Mathlib.Omega.{arith}
 use lib.ListN.{length-append}
-use Rattle.text.specs.Digits.{decimal}
+use Rattle.commands.specs.Digits.{decimal}
 use Rattle.text.specs.Lines.{field}
-use Rattle.text.proofs.OneDigit.{length-decimal}
+use Rattle.commands.proofs.OneDigit.{length-decimal}
 use Rattle.text.proofs.Stores.{stored}
 use borrow.Author.Needs.{needs}
 use Rattle.text.proofs.lines.put_field.Statement.{statement}
@@ -25,7 +25,11 @@ same-length c = search needs
 
 returns : tie.Need-returns
 unfolding field
-returns c = (omega (arith, length-append (decimal (c .before .before .before .before .before .args .v)) (c .before .before .before .before .before .args .after ∷ []), c .before .before .put-decimal .ensures .0), sym (stored (decimal (c .before .before .before .before .before .args .v)) (c .before .before .before .before .before .args .after ∷ []) _ _ _ _ (c .before .before .put-decimal .ensures .1) (c .before .before .put-decimal .ensures .0)))
+returns c = (
+  omega (arith, length-append (decimal (c .before .before .before .before .before .args .v)) (c .before .before .before .before .before .args .after ∷ []), c .before .before .put-decimal .ensures .0),
+  sym (stored (decimal (c .before .before .before .before .before .args .v)) (c .before .before .before .before .before .args .after ∷ []) _ _ _ _ (c .before .before .put-decimal .ensures .1)
+      (c .before .before .put-decimal .ensures .0)),
+)
 
 pub put-field-spec : {M : Type 1} → statement M
 put-field-spec =

@@ -4,9 +4,9 @@ use mathlib.Core.List.{[], _∷_, _++_}
 use Prim.Native.Nat.{_+_}
 use native.Mathlib.Omega.{arith}
 use lib.ListN.{length-append, length-set}
-use Rattle.text.specs.Digits.{hex}
-use Rattle.text.specs.Lines.{SPACE, NEWLINE, field, runLine}
-use Rattle.text.proofs.OneDigit.{length-hex}
+use Rattle.commands.specs.Digits.{SPACE, hex}
+use Rattle.text.specs.Lines.{NEWLINE, field, runLine}
+use Rattle.commands.proofs.OneDigit.{length-hex}
 use Rattle.text.proofs.Runs.{length-field}
 use Rattle.text.proofs.Stores.{stored}
 use borrow.Author.Needs.{needs}
@@ -20,22 +20,85 @@ put-field-requires-2 : tie.Need-put-field-requires-2
 put-field-requires-2 c κs = omega (arith, length-field (c .before .before .before .before .before .before .args .channel) 32, c .before .before .before .put-field .ensures .0, c .before .before .before .put-field .kept .0)
 
 put-field-requires-3 : tie.Need-put-field-requires-3
-put-field-requires-3 c κs = omega (arith, length-field (c .before .before .before .before .before .before .before .before .before .before .args .channel) 32, c .before .before .before .before .before .before .before .put-field .ensures .0, c .before .before .before .before .before .before .before .put-field .kept .0, length-field (c .before .before .before .before .before .before .before .before .before .before .args .first) 32, c .before .before .before .put-field2 .ensures .0, c .before .before .before .put-field2 .kept .0)
+put-field-requires-3 c κs =
+    omega (
+      arith,
+      length-field (c .before .before .before .before .before .before .before .before .before .before .args .channel) 32,
+      c .before .before .before .before .before .before .before .put-field .ensures .0,
+      c .before .before .before .before .before .before .before .put-field .kept .0,
+      length-field (c .before .before .before .before .before .before .before .before .before .before .args .first) 32,
+      c .before .before .before .put-field2 .ensures .0,
+      c .before .before .before .put-field2 .kept .0,
+    )
 
 put-hex-requires : tie.Need-put-hex-requires
-put-hex-requires c κs = omega (arith, length-field (c .before .before .before .before .before .before .before .before .before .before .before .before .before .before .args .channel) 32, c .before .before .before .before .before .before .before .before .before .before .before .put-field .ensures .0, c .before .before .before .before .before .before .before .before .before .before .before .put-field .kept .0, length-field (c .before .before .before .before .before .before .before .before .before .before .before .before .before .before .args .first) 32, c .before .before .before .before .before .before .before .put-field2 .ensures .0, c .before .before .before .before .before .before .before .put-field2 .kept .0, length-field (c .before .before .before .before .before .before .before .before .before .before .before .before .before .before .args .count) 32, c .before .before .before .put-field3 .ensures .0, c .before .before .before .put-field3 .kept .0)
+put-hex-requires c κs =
+    omega (
+      arith,
+      length-field (c .before .before .before .before .before .before .before .before .before .before .before .before .before .before .args .channel) 32,
+      c .before .before .before .before .before .before .before .before .before .before .before .put-field .ensures .0,
+      c .before .before .before .before .before .before .before .before .before .before .before .put-field .kept .0,
+      length-field (c .before .before .before .before .before .before .before .before .before .before .before .before .before .before .args .first) 32,
+      c .before .before .before .before .before .before .before .put-field2 .ensures .0,
+      c .before .before .before .before .before .before .before .put-field2 .kept .0,
+      length-field (c .before .before .before .before .before .before .before .before .before .before .before .before .before .before .args .count) 32,
+      c .before .before .before .put-field3 .ensures .0,
+      c .before .before .before .put-field3 .kept .0,
+    )
 
 add-out : tie.Need-add-out
-add-out c = omega (arith, length-field (c .before .before .before .before .before .before .before .before .before .before .before .before .before .before .before .before .before .args .channel) 32, c .before .before .before .before .before .before .before .before .before .before .before .before .before .before .put-field .ensures .0, c .before .before .before .before .before .before .before .before .before .before .before .before .before .before .put-field .kept .0, length-field (c .before .before .before .before .before .before .before .before .before .before .before .before .before .before .before .before .before .args .first) 32, c .before .before .before .before .before .before .before .before .before .before .put-field2 .ensures .0, c .before .before .before .before .before .before .before .before .before .before .put-field2 .kept .0, length-field (c .before .before .before .before .before .before .before .before .before .before .before .before .before .before .before .before .before .args .count) 32, c .before .before .before .before .before .before .put-field3 .ensures .0, c .before .before .before .before .before .before .put-field3 .kept .0, c .before .before .put-hex .kept .0)
+add-out c =
+    omega (
+      arith,
+      length-field (c .before .before .before .before .before .before .before .before .before .before .before .before .before .before .before .before .before .args .channel) 32,
+      c .before .before .before .before .before .before .before .before .before .before .before .before .before .before .put-field .ensures .0,
+      c .before .before .before .before .before .before .before .before .before .before .before .before .before .before .put-field .kept .0,
+      length-field (c .before .before .before .before .before .before .before .before .before .before .before .before .before .before .before .before .before .args .first) 32,
+      c .before .before .before .before .before .before .before .before .before .before .put-field2 .ensures .0,
+      c .before .before .before .before .before .before .before .before .before .before .put-field2 .kept .0,
+      length-field (c .before .before .before .before .before .before .before .before .before .before .before .before .before .before .before .before .before .args .count) 32,
+      c .before .before .before .before .before .before .put-field3 .ensures .0,
+      c .before .before .before .before .before .before .put-field3 .kept .0,
+      c .before .before .put-hex .kept .0,
+    )
 
 slice-write-out : tie.Need-slice-write-out
-slice-write-out c = omega (arith, length-field (c .before .before .before .before .before .before .before .before .before .before .before .before .before .before .before .before .before .args .channel) 32, c .before .before .before .before .before .before .before .before .before .before .before .before .before .before .put-field .ensures .0, c .before .before .before .before .before .before .before .before .before .before .before .before .before .before .put-field .kept .0, length-field (c .before .before .before .before .before .before .before .before .before .before .before .before .before .before .before .before .before .args .first) 32, c .before .before .before .before .before .before .before .before .before .before .put-field2 .ensures .0, c .before .before .before .before .before .before .before .before .before .before .put-field2 .kept .0, length-field (c .before .before .before .before .before .before .before .before .before .before .before .before .before .before .before .before .before .args .count) 32, c .before .before .before .before .before .before .put-field3 .ensures .0, c .before .before .before .before .before .before .put-field3 .kept .0, c .before .before .put-hex .kept .0)
+slice-write-out c =
+    omega (
+      arith,
+      length-field (c .before .before .before .before .before .before .before .before .before .before .before .before .before .before .before .before .before .args .channel) 32,
+      c .before .before .before .before .before .before .before .before .before .before .before .before .before .before .put-field .ensures .0,
+      c .before .before .before .before .before .before .before .before .before .before .before .before .before .before .put-field .kept .0,
+      length-field (c .before .before .before .before .before .before .before .before .before .before .before .before .before .before .before .before .before .args .first) 32,
+      c .before .before .before .before .before .before .before .before .before .before .put-field2 .ensures .0,
+      c .before .before .before .before .before .before .before .before .before .before .put-field2 .kept .0,
+      length-field (c .before .before .before .before .before .before .before .before .before .before .before .before .before .before .before .before .before .args .count) 32,
+      c .before .before .before .before .before .before .put-field3 .ensures .0,
+      c .before .before .before .before .before .before .put-field3 .kept .0,
+      c .before .before .put-hex .kept .0,
+    )
 
 add-result : tie.Need-add-result
-add-result c = omega (arith, length-field (c .before .before .before .before .before .before .before .before .before .before .before .before .before .before .before .before .before .args .channel) 32, c .before .before .before .before .before .before .before .before .before .before .before .before .before .before .put-field .ensures .0, c .before .before .before .before .before .before .before .before .before .before .before .before .before .before .put-field .kept .0, length-field (c .before .before .before .before .before .before .before .before .before .before .before .before .before .before .before .before .before .args .first) 32, c .before .before .before .before .before .before .before .before .before .before .put-field2 .ensures .0, c .before .before .before .before .before .before .before .before .before .before .put-field2 .kept .0, length-field (c .before .before .before .before .before .before .before .before .before .before .before .before .before .before .before .before .before .args .count) 32, c .before .before .before .before .before .before .put-field3 .ensures .0, c .before .before .before .before .before .before .put-field3 .kept .0, c .before .before .put-hex .kept .0)
+add-result c =
+    omega (
+      arith,
+      length-field (c .before .before .before .before .before .before .before .before .before .before .before .before .before .before .before .before .before .args .channel) 32,
+      c .before .before .before .before .before .before .before .before .before .before .before .before .before .before .put-field .ensures .0,
+      c .before .before .before .before .before .before .before .before .before .before .before .before .before .before .put-field .kept .0,
+      length-field (c .before .before .before .before .before .before .before .before .before .before .before .before .before .before .before .before .before .args .first) 32,
+      c .before .before .before .before .before .before .before .before .before .before .put-field2 .ensures .0,
+      c .before .before .before .before .before .before .before .before .before .before .put-field2 .kept .0,
+      length-field (c .before .before .before .before .before .before .before .before .before .before .before .before .before .before .before .before .before .args .count) 32,
+      c .before .before .before .before .before .before .put-field3 .ensures .0,
+      c .before .before .before .before .before .before .put-field3 .kept .0,
+      c .before .before .put-hex .kept .0,
+    )
 
 same-length : tie.Need-same-length
-same-length c = length-set (c .before .before .put-hex .last .0) (c .before .before .before .before .before .before .put-field3 .result + 8) 10 ∙ c .before .before .put-hex .kept .0 ∙ c .before .before .before .before .before .before .put-field3 .kept .0 ∙ c .before .before .before .before .before .before .before .before .before .before .put-field2 .kept .0 ∙ c .before .before .before .before .before .before .before .before .before .before .before .before .before .before .put-field .kept .0
+same-length c =
+    length-set (c .before .before .put-hex .last .0) (c .before .before .before .before .before .before .put-field3 .result + 8) 10 ∙ c .before .before .put-hex .kept .0
+    ∙ c .before .before .before .before .before .before .put-field3 .kept .0 ∙ c .before .before .before .before .before .before .before .before .before .before .put-field2 .kept .0
+    ∙ c .before .before .before .before .before .before .before .before .before .before .before .before .before .before .put-field .kept .0
 
 returns : tie.Need-returns
 unfolding runLine

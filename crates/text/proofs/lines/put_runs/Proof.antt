@@ -54,7 +54,10 @@ loop-again c =
       c .before .before .put-run .kept .0 ∙ c .before .before .before .before .before .before .before .loop .inv .1,
       omega (arith, length-run (c .before .before .before .before .before .before .before .before .before .before .args .channel) i n (getD w i 0), c .before .before .put-run .ensures .0),
       omega (arith, c .before .before .before .before .before .before .before .loop .inv .3, ap length turn, length-append line (runs (c .before .before .before .before .before .before .before .before .before .before .args .channel) (i + n) (drop (i + n) w)), c .before .before .put-run .ensures .0),
-      sym (ap (λ (l : List ℕ). sets (c .before .before .before .before .before .before .before .loop .out) (c .before .before .before .before .before .before .before .loop .at) l) turn ∙ stored line (runs (c .before .before .before .before .before .before .before .before .before .before .args .channel) (i + n) (drop (i + n) w)) (c .before .before .before .before .before .before .before .loop .out) _ (c .before .before .before .before .before .before .before .loop .at) _ (c .before .before .put-run .ensures .1) (c .before .before .put-run .ensures .0)) ∙ c .before .before .before .before .before .before .before .loop .inv .4,
+      sym (ap (λ (l : List ℕ). sets (c .before .before .before .before .before .before .before .loop .out) (c .before .before .before .before .before .before .before .loop .at) l) turn
+          ∙ stored line (runs (c .before .before .before .before .before .before .before .before .before .before .args .channel) (i + n) (drop (i + n) w))
+          (c .before .before .before .before .before .before .before .loop .out) _ (c .before .before .before .before .before .before .before .loop .at) _ (c .before .before .put-run .ensures .1)
+          (c .before .before .put-run .ensures .0)) ∙ c .before .before .before .before .before .before .before .loop .inv .4,
     )
 
 same-length : tie.Need-same-length Inv-loop μ-loop

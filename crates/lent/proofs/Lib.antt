@@ -1,0 +1,3 @@
+-- What the proofs of `lent` share; the walks of `netthimble` cite the answers.
+pub mod Answers
+mod Mute

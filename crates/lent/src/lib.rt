@@ -1,0 +1,167 @@
+// What the library for C is made of, below its exported functions: the player's calls by value, where
+// all branches are, a message on the lent player, and the player that a refused rate is answered with.
+ghost use mathlib.Core.Path.{_≡_};
+ghost use lib.ListN.{length};
+ghost use Rattle.player.specs.Messages.{handled, buffered};
+ghost use Rattle.player.specs.Block.{rendered, output};
+ghost use Rattle.lent.specs.Lent.{afterCall, afterBlock};
+ghost use Rattle.lent.specs.Nobody.{noShape, nobody, NobodyPlays};
+use buffer::Shape;
+use player::ControlMessage;
+use player::Handled;
+use player::LoopState;
+use player::Player;
+use player::RenderState;
+use player::Rendered;
+use seconds::BufferSeconds;
+use seconds::ContextSeconds;
+
+// The player that a message or a buffer call leaves, and the number of its refusal, 0 for none.
+#[repr(C)]
+pub struct Told {
+    pub player: Player,
+    pub refusal: u32,
+}
+
+// What a block answers: keep-alive, ended, the answered channels and the position; or the number of its refusal beside zeros.
+#[repr(C)]
+pub struct BlockAnswer {
+    pub position: BufferSeconds,
+    pub channels: usize,
+    pub refusal: u32,
+    pub keep_alive: bool,
+    pub ended: bool,
+}
+
+// The player that a block leaves, and its answer.
+pub struct Blocked {
+    pub player: Player,
+    pub answer: BlockAnswer,
+}
+
+pub fn after_call(p: Player, handled: Handled) -> Told
+    ensures { λ r. ⌜ r ≡ afterCall p handled ⌝ }
+{
+    match handled {
+        Handled::Done(player) => Told { player, refusal: 0 },
+        Handled::Refused(refusal) => Told { player: p, refusal },
+    }
+}
+
+pub fn message_by_value(p: Player, m: ControlMessage) -> Told
+    ensures { λ r. ⌜ r ≡ afterCall p (handled p m) ⌝ }
+{
+    after_call(p, p.handle_control_message(m))
+}
+
+pub fn buffer_by_value(
+    p: Player,
+    channels: usize,
+    frames: usize,
+    rate: f32,
+    samples: &[u32],
+) -> Told
+    ensures { λ r. ⌜ r ≡ afterCall p (buffered p channels frames rate (length (now (samples .entry)))) ⌝ }
+{
+    after_call(p, p.set_buffer(channels, frames, rate, samples))
+}
+
+fn after_block(p: Player, rendered: Rendered) -> Blocked
+    ensures { λ r. ⌜ r ≡ afterBlock p rendered ⌝ }
+{
+    match rendered {
+        Rendered::Block(r) => {
+            let player = r.player;
+            let position = r.position;
+            let answer = BlockAnswer {
+                position,
+                channels: r.channels,
+                refusal: 0,
+                keep_alive: r.keep_alive,
+                ended: r.ended,
+            };
+            Blocked { player, answer }
+        }
+        Rendered::Refused(refusal) => {
+            let answer = BlockAnswer {
+                position: BufferSeconds(0.0),
+                channels: 0,
+                refusal,
+                keep_alive: false,
+                ended: false,
+            };
+            Blocked { player: p, answer }
+        }
+    }
+}
+
+pub fn block_by_value(
+    p: Player,
+    out: &mut [u32],
+    samples: &[u32],
+    time: f64,
+    rate: f32,
+    factor: f64,
+) -> Blocked
+    ensures { λ r. ⌜ (r ≡ afterBlock p (rendered 128 p (length (now (out .entry))) (length (now (samples .entry))) time rate factor))
+        × (now (out .exit) ≡ output 128 p (now (out .entry)) (now (samples .entry)) time rate factor) ⌝ }
+{
+    after_block(p, p.process(out, samples, time, rate, factor))
+}
+
+// A control message. Returns the number of its refusal, 0 for none.
+pub fn handle_control_message(p: &mut Player, m: ControlMessage) -> u32
+    ensures { λ r. ⌜ (r ≡ afterCall (now (p .entry)) (handled (now (p .entry)) m) .refusal)
+        × (now (p .exit) ≡ afterCall (now (p .entry)) (handled (now (p .entry)) m) .player) ⌝ }
+{
+    let r = message_by_value(*p, m);
+    *p = r.player;
+    r.refusal
+}
+
+// The shape of a refused answer.
+pub fn no_shape() -> Shape
+    ensures { λ r. ⌜ r ≡ noShape ⌝ }
+{
+    Shape {
+        channels: 0,
+        frames: 0,
+        rate: 0.0,
+    }
+}
+
+// The player that a refused rate is answered with.
+pub fn nobody() -> Player
+    ensures { λ r. ⌜ r ≡ nobody ⌝ }
+{
+    Player {
+        sample_rate: 0.0,
+        start_time: ContextSeconds(0.0),
+        stop_time: ContextSeconds(0.0),
+        offset: BufferSeconds(0.0),
+        duration: BufferSeconds(0.0),
+        loop_state: LoopState {
+            is_looping: false,
+            start: BufferSeconds(0.0),
+            end: BufferSeconds(0.0),
+        },
+        render_state: RenderState {
+            buffer_time: BufferSeconds(0.0),
+            started: false,
+            entered_loop: false,
+            buffer_time_elapsed: BufferSeconds(0.0),
+            is_aligned: false,
+            ended: true,
+        },
+        has_start: true,
+        has_buffer: true,
+        shape: no_shape(),
+        has_block: false,
+        block_time: ContextSeconds(0.0),
+    }
+}
+
+// The player of a refused rate never plays.
+pub fn nobody_plays()
+    ensures { λ _. ⌜ NobodyPlays ⌝ }
+{}
