@@ -31,7 +31,8 @@ two = fin false 1 (pos 1)
 
 unfoldable pub KnownLoopPoints : Type 0
 KnownLoopPoints =
-    (clampedEnd none one ≡ one) × (clampedEnd minusOne one ≡ one) × (clampedEnd onePointFive one ≡ one) × (clampedStart minusOne one ≡ none) × (clampedStart two one ≡ one)
+    (clampedEnd none one ≡ one) × (clampedEnd minusOne one ≡ one) × (clampedEnd onePointFive one ≡ one)
+    × (clampedStart minusOne one ≡ none) × (clampedStart two one ≡ one)
 
 -- ---- playback at 48,000 = 375 × 2 ^ 7 of one channel, in which frame i has the bits i + 1
 abbrev rate : Float

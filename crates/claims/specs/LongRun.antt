@@ -13,7 +13,8 @@ use Rattle.buffer.specs.Limits.{validRate}
 use Rattle.player.specs.Record.{fresh}
 use Rattle.buffer.specs.Channels.{channel}
 use Rattle.player.specs.declared.Player.{Player}
-use Rattle.claims.specs.Calls.{Call, buffer, message, block, allTyped, Event, accepted, after, afterAll, timeOf, channelsOf, sampleOf, isEnded, opening, playing, Clip, Started, clipIn, startIn, stopIn, switchIn, pointIn, gathered}
+use Rattle.claims.specs.Calls.{Call, buffer, message, block, allTyped, Event, accepted, after, afterAll, timeOf, channelsOf, sampleOf, isEnded}
+use Rattle.claims.specs.Calls.{opening, playing, Clip, Started, clipIn, startIn, stopIn, switchIn, pointIn, gathered}
 
 -- ---- the premises, on what is accepted
 

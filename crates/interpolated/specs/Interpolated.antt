@@ -18,7 +18,9 @@ unfoldable pub loopFrame : Settings → ℕ
 loopFrame s =
     let start = mul binary64 (s .«loop_start» .0) (s .«sample_rate») in
     let end = mul binary64 (s .«loop_end» .0) (s .«sample_rate») in
-    min (cond (le none (s .«playback_rate»)) (cond (eq (floor binary64 start) start) (toUnsigned 64 start) (toUnsigned 64 start + 1)) (toUnsigned 64 end)) (s .«buffer_length» - 1)
+    min
+    (cond (le none (s .«playback_rate»)) (cond (eq (floor binary64 start) start) (toUnsigned 64 start) (toUnsigned 64 start + 1)) (toUnsigned 64 end))
+    (s .«buffer_length» - 1)
 
 -- unlooped, it is continued from the last two frames
 unfoldable pub extrapolated : List ℕ → ℕ → Float → Float

@@ -94,7 +94,8 @@ fn last_of(n: usize, m: usize) -> usize
 
 // The sample at a frame, and the one after it. Before the last frame both are frames of the channel.
 fn neighbours(s: Settings, channel: &[u32], frame: usize, k: f64) -> Neighbours
-    ensures { λ r. ⌜ (r .«prev_sample» ≡ widen (getD (now (channel .entry)) frame 0)) × (r .«next_sample» ≡ following s (now (channel .entry)) frame k) ⌝ }
+    ensures { λ r. ⌜ (r .«prev_sample» ≡ widen (getD (now (channel .entry)) frame 0))
+        × (r .«next_sample» ≡ following s (now (channel .entry)) frame k) ⌝ }
 {
     if frame < last_of(s.buffer_length, channel.len()) {
         return Neighbours {

@@ -11,5 +11,6 @@ use Rattle.obeying.specs.declared.Session.{Session}
 
 -- `B` lines past the last number that is counted: refused with 13 at every allowed rate
 abbrev pub LateBlocks : Type 0
-LateBlocks = (samples : List ℕ) (s : Session) (words : List ℕ) → validRate (s .player .«sample_rate») ≡ true → length words ≡ 4096 → mostBlocks ≤ s .number
+LateBlocks = (samples : List ℕ) (s : Session) (words : List ℕ) → validRate (s .player .«sample_rate») ≡ true → length words ≡ 4096
+    → mostBlocks ≤ s .number
     → played samples s words ≡ refused (sessionOf (s .player) (nextNumber (s .number))) TIME

@@ -178,7 +178,8 @@ pub fn obey(
 ) -> Obeyed
     ensures { λ r. ⌜ (let o = obeyed (now (samples .entry)) session (now (words .entry)) (now (line .entry)) in
         let room = hasRoom (now (out .entry)) in
-        (r ≡ answered room o) × (now (words .exit) ≡ wordsAfter room o (now (words .entry))) × (now (out .exit) ≡ outAfter room o (now (out .entry)))) ⌝ }
+        (r ≡ answered room o) × (now (words .exit) ≡ wordsAfter room o (now (words .entry)))
+        × (now (out .exit) ≡ outAfter room o (now (out .entry)))) ⌝ }
     ensures { λ r. ⌜ written r ≤ length (now (out .entry)) ⌝ }
 {
     if out.len() < BLOCK_ROOM {

@@ -66,7 +66,8 @@ isAligned n p time computed =
     (p .«render_state» .«is_aligned» || eq (startAt p time) time && eq (p .offset .0) none)
     && not (ne (samplingRatio p) one || ne computed one)
     && not (ne (p .«loop_state» .start .0) none || ne (p .«loop_state» .end .0) (clipSeconds p))
-    && not (lt (p .duration .0) (add binary64 (p .«render_state» .«buffer_time» .0) (blockSeconds n (p .«sample_rate»))) || lt (p .«stop_time» .0) (blockEnd n time (p .«sample_rate»)))
+    && not (lt (p .duration .0) (add binary64 (p .«render_state» .«buffer_time» .0) (blockSeconds n (p .«sample_rate»)))
+    || lt (p .«stop_time» .0) (blockEnd n time (p .«sample_rate»)))
 
 -- After either kind of block: ended if the stop or the duration is reached, or, unlooped, the clip's end forwards or its start backwards.
 unfoldable pub hasEnded : ℕ → Player → Float → Float → Float → Float → Bool
@@ -92,7 +93,8 @@ alignedPlan n p time computed =
     let position = alignedPosition n (r .«buffer_time» .0) rate (clipSeconds p) (lastWrap turns (p .shape .frames) (firstOf p) n) in
     let elapsed = add binary64 (r .«buffer_time_elapsed» .0) (blockSeconds n rate) in
     record {
-      player = moved p start (p .offset .0) (renderOf position (r .started || eq start time) (r .«entered_loop») elapsed true (hasEnded n p time computed position elapsed)) time;
+      player = moved p start (p .offset .0)
+          (renderOf position (r .started || eq start time) (r .«entered_loop») elapsed true (hasEnded n p time computed position elapsed)) time;
       keepAlive = true;
       channels = p .shape .channels;
       sample = alignedSample turns (p .shape .frames) (firstOf p);
@@ -124,7 +126,8 @@ settings p time rate computed = record {
 unfoldable pub firstHead : Player → Float → Playhead
 firstHead p time =
     let r = p .«render_state» in
-    headOf (startAt p time) (p .offset .0) (r .«buffer_time» .0) (r .«buffer_time_elapsed» .0) (r .started) (p .«loop_state» .«is_looping» && r .«entered_loop»)
+    headOf (startAt p time) (p .offset .0) (r .«buffer_time» .0) (r .«buffer_time_elapsed» .0) (r .started)
+    (p .«loop_state» .«is_looping» && r .«entered_loop»)
 
 unfoldable pub subSamplePlan : ℕ → Player → Float → Float → Float → Plan
 subSamplePlan n p time rate computed =
@@ -133,7 +136,8 @@ subSamplePlan n p time rate computed =
     let l = headAt s h n in
     let ended = hasEnded n p time computed (l .«buffer_time» .0) (l .«buffer_time_elapsed» .0) in
     record {
-      player = moved p (l .«start_time» .0) (l .offset .0) (renderOf (l .«buffer_time» .0) (l .started) (l .«entered_loop») (l .«buffer_time_elapsed» .0) false ended) time;
+      player = moved p (l .«start_time» .0) (l .offset .0)
+          (renderOf (l .«buffer_time» .0) (l .started) (l .«entered_loop») (l .«buffer_time_elapsed» .0) false ended) time;
       keepAlive = true;
       channels = p .shape .channels;
       sample = λ frames i. sampleOf s frames (infoOfSample s i (headAt s h i));

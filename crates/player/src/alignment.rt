@@ -75,7 +75,8 @@ impl Player {
 
     // A duration or a stop inside the block.
     fn stops_within(self, time: f64) -> bool
-        ensures { λ r. ⌜ r ≡ (lt (self .duration .0) (add binary64 (self .«render_state» .«buffer_time» .0) (blockSeconds 128 (self .«sample_rate»))) || lt (self .«stop_time» .0) (blockEnd 128 time (self .«sample_rate»))) ⌝ }
+        ensures { λ r. ⌜ r ≡ (lt (self .duration .0) (add binary64 (self .«render_state» .«buffer_time» .0) (blockSeconds 128 (self .«sample_rate»)))
+            || lt (self .«stop_time» .0) (blockEnd 128 time (self .«sample_rate»))) ⌝ }
     {
         if self.render_state.buffer_time.0 + block_seconds(self.sample_rate) > self.duration.0 {
             return true;

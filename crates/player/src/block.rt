@@ -9,7 +9,8 @@ ghost use Rattle.lists.specs.Table.{table};
 ghost use Rattle.lists.specs.Parts.{put};
 ghost use Rattle.player.specs.Record.{renderOf, moved};
 ghost use Rattle.player.specs.Reports.{reportFrom};
-ghost use Rattle.player.specs.Block.{silent, idle, computedRate, hasEnded, alignedPlan, subSamplePlan, plan, badSamples, reportOf, rendered, written, output};
+ghost use Rattle.player.specs.Block.{silent, idle, computedRate, hasEnded, alignedPlan, subSamplePlan, plan};
+ghost use Rattle.player.specs.Block.{badSamples, reportOf, rendered, written, output};
 use super::BlockReport;
 use super::Player;
 use super::RenderState;
@@ -76,7 +77,8 @@ impl Player {
     // Silence is one channel of zeros.
     fn silent_block(self, out: &mut [u32], time: f64, ended: bool, keep_alive: bool) -> BlockReport
         requires { ⌜ length (now out) ≡ 4096 ⌝ }
-        ensures { λ r. ⌜ (r ≡ reportOf (silent (idle self time ended) «keep_alive»)) × (now (out .exit) ≡ put 0 128 (table 128 (λ i. 0)) (now (out .entry))) ⌝ }
+        ensures { λ r. ⌜ (r ≡ reportOf (silent (idle self time ended) «keep_alive»))
+            × (now (out .exit) ≡ put 0 128 (table 128 (λ i. 0)) (now (out .entry))) ⌝ }
     {
         fill_zeros(&mut out[0..128]);
         self.idle(time, ended).report(keep_alive, 1)
@@ -117,9 +119,11 @@ impl Player {
         time: f64,
         computed: f64,
     ) -> BlockReport
-        requires { ⌜ (length (now out) ≡ 4096) × (self .shape .channels ≤ 32) × (self .shape .frames ≤ 16777216) × (length (now samples) ≡ self .shape .channels * self .shape .frames) ⌝ }
+        requires { ⌜ (length (now out) ≡ 4096) × (self .shape .channels ≤ 32) × (self .shape .frames ≤ 16777216)
+            × (length (now samples) ≡ self .shape .channels * self .shape .frames) ⌝ }
         ensures { λ r. ⌜ (r ≡ reportOf (alignedPlan 128 self time computed))
-            × (now (out .exit) ≡ written 128 (alignedPlan 128 self time computed .sample) (self .shape .frames) (now (samples .entry)) (now (out .entry)) (self .shape .channels)) ⌝ }
+            × (now (out .exit)
+            ≡ written 128 (alignedPlan 128 self time computed .sample) (self .shape .frames) (now (samples .entry)) (now (out .entry)) (self .shape .channels)) ⌝ }
     {
         let channels = self.shape.channels;
         write_aligned(
@@ -161,9 +165,11 @@ impl Player {
         rate: f32,
         computed: f64,
     ) -> BlockReport
-        requires { ⌜ (length (now out) ≡ 4096) × (self .shape .channels ≤ 32) × (self .shape .frames ≤ 16777216) × (length (now samples) ≡ self .shape .channels * self .shape .frames) ⌝ }
+        requires { ⌜ (length (now out) ≡ 4096) × (self .shape .channels ≤ 32) × (self .shape .frames ≤ 16777216)
+            × (length (now samples) ≡ self .shape .channels * self .shape .frames) ⌝ }
         ensures { λ r. ⌜ (r ≡ reportOf (subSamplePlan 128 self time rate computed))
-            × (now (out .exit) ≡ written 128 (subSamplePlan 128 self time rate computed .sample) (self .shape .frames) (now (samples .entry)) (now (out .entry)) (self .shape .channels)) ⌝ }
+            × (now (out .exit)
+            ≡ written 128 (subSamplePlan 128 self time rate computed .sample) (self .shape .frames) (now (samples .entry)) (now (out .entry)) (self .shape .channels)) ⌝ }
     {
         let channels = self.shape.channels;
         let s = self.settings(time, rate, computed);
@@ -212,7 +218,9 @@ impl Player {
     ) -> BlockReport
         requires { ⌜ (length (now out) ≡ 4096) × (badSamples self (length (now samples)) ≡ false) ⌝ }
         ensures { λ r. ⌜ (r ≡ reportOf (plan 128 self time rate factor))
-            × (now (out .exit) ≡ written 128 (plan 128 self time rate factor .sample) (self .shape .frames) (now (samples .entry)) (now (out .entry)) (plan 128 self time rate factor .channels)) ⌝ }
+            × (now (out .exit)
+            ≡ written 128 (plan 128 self time rate factor .sample) (self .shape .frames) (now (samples .entry)) (now (out .entry))
+            (plan 128 self time rate factor .channels)) ⌝ }
     {
         if self.is_over() {
             return self.silent_block(out, time, true, false);

@@ -2,7 +2,8 @@
 ghost use mathlib.Core.Path.{_≡_};
 ghost use lib.ListN.{length};
 ghost use Rattle.player.specs.Record.{fresh};
-ghost use Rattle.player.specs.Messages.{made, buffered, handled, badTime, clampedStart, clampedEnd, clamped, onStart, onStop, onLoop, onLoopStart, onLoopEnd};
+ghost use Rattle.player.specs.Messages.{made, buffered, handled, badTime, clampedStart, clampedEnd, clamped};
+ghost use Rattle.player.specs.Messages.{onStart, onStop, onLoop, onLoopStart, onLoopEnd};
 use super::ControlMessage;
 use super::Handled;
 use super::LoopState;

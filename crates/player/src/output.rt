@@ -41,7 +41,8 @@ pub(crate) fn write_interpolated<'a>(
     present: &'a [bool; 128],
 )
     requires { ⌜ (length (now out) ≡ 4096) × (count ≤ 32) × (frames ≤ 16777216) × (length (now samples) ≡ count * frames) ⌝ }
-    ensures { λ _. ⌜ now (out .exit) ≡ written 128 (sampleBy s (now (frame .entry)) (now (fraction .entry)) (now (present .entry))) frames (now (samples .entry)) (now (out .entry)) count ⌝ }
+    ensures { λ _. ⌜ now (out .exit)
+        ≡ written 128 (sampleBy s (now (frame .entry)) (now (fraction .entry)) (now (present .entry))) frames (now (samples .entry)) (now (out .entry)) count ⌝ }
 {
     let mut c = 0;
     while c < count {

@@ -54,9 +54,9 @@ pub record RoundingLaws : Type 0 where
   pub itself : (f : Format) (x : Float) (s : Bool) (a c : ℕ) → 0 < c → T (fits f x) → HasValue x s a c → round f s a c ≡ x
   pub whole : (f : Format) (n : ℕ) → n ≤ 2 ^ prec f → HasValue (ofInt f (pos n)) false n 1
   -- a product with a power of two is exact, and so are a remainder, and the difference of values within a factor of 2 (Sterbenz)
-  pub power : (f : Format) (x w : Float) (s : Bool) (a t : ℕ) → T (fits f x) → HasValue x s a (2 ^ low f) → HasValue w false (2 ^ t) 1 → a * 2 ^ t < overflow f
-      → HasValue (mul f x w) s (a * 2 ^ t) (2 ^ low f)
-  pub remainder : (f : Format) (x y : Float) (s t : Bool) (a b : ℕ) → T (fits f x) → T (fits f y) → HasValue x s a (2 ^ low f) → HasValue y t b (2 ^ low f)
-      → 0 < b → HasValue (rem f x y) s (a % b) (2 ^ low f)
+  pub power : (f : Format) (x w : Float) (s : Bool) (a t : ℕ) → T (fits f x) → HasValue x s a (2 ^ low f) → HasValue w false (2 ^ t) 1
+      → a * 2 ^ t < overflow f → HasValue (mul f x w) s (a * 2 ^ t) (2 ^ low f)
+  pub remainder : (f : Format) (x y : Float) (s t : Bool) (a b : ℕ) → T (fits f x) → T (fits f y) → HasValue x s a (2 ^ low f)
+      → HasValue y t b (2 ^ low f) → 0 < b → HasValue (rem f x y) s (a % b) (2 ^ low f)
   pub sterbenz : (f : Format) (x y : Float) (a b : ℕ) → T (fits f x) → T (fits f y) → HasValue x false a (2 ^ low f) → HasValue y false b (2 ^ low f)
       → b ≤ a → a ≤ 2 * b → HasValue (sub f x y) false (a - b) (2 ^ low f)

@@ -65,7 +65,8 @@ joined [] = []
 joined (c ∷ cs) = c ++ joined cs
 
 abbrev pub WholeInput : Type 0
-WholeInput = (samples : List ℕ) (s : Session) (line words : List ℕ) (room : ℕ) (chunks : List (List ℕ)) → longEnough ≤ length line → blockRoom ≤ room
+WholeInput = (samples : List ℕ) (s : Session) (line words : List ℕ) (room : ℕ) (chunks : List (List ℕ))
+    → longEnough ≤ length line → blockRoom ≤ room
     → (let calls = callsOf samples room (run s line 0 words) chunks in
     printed samples (run s line 0 words) calls ++ finished samples (left samples (run s line 0 words) calls) .reply .text
     ≡ transcript samples s words (joined chunks))

@@ -98,7 +98,8 @@ pub fn feed(
 ) -> Fed
     ensures { λ r. ⌜ (let f = fed (now (samples .entry)) (length (now (out .entry)))
         (runOf start (now (line .entry)) (now (words .entry))) (now (input .entry)) in
-        (r ≡ fedOf f) × (now (line .exit) ≡ f .run .line) × (now (words .exit) ≡ f .run .words) × (now (out .exit) ≡ sets (now (out .entry)) 0 (f .text))) ⌝ }
+        (r ≡ fedOf f) × (now (line .exit) ≡ f .run .line) × (now (words .exit) ≡ f .run .words)
+        × (now (out .exit) ≡ sets (now (out .entry)) 0 (f .text))) ⌝ }
     ensures { λ r. ⌜ Moves (length (now (input .entry))) (length (now (out .entry))) r ⌝ }
 {
     let mut state = start;
@@ -135,7 +136,8 @@ pub fn finish(
 ) -> Obeyed
     ensures { λ r. ⌜ (let o = finished (now (samples .entry)) (runOf state (now (line .entry)) (now (words .entry))) in
         let room = hasRoom (now (out .entry)) in
-        (r ≡ answered room o) × (now (words .exit) ≡ wordsAfter room o (now (words .entry))) × (now (out .exit) ≡ outAfter room o (now (out .entry)))) ⌝ }
+        (r ≡ answered room o) × (now (words .exit) ≡ wordsAfter room o (now (words .entry)))
+        × (now (out .exit) ≡ outAfter room o (now (out .entry)))) ⌝ }
     ensures { λ r. ⌜ written r ≤ length (now (out .entry)) ⌝ }
 {
     if out.len() < BLOCK_ROOM {

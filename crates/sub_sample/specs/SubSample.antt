@@ -75,7 +75,8 @@ enters s offset x =
 unfoldable pub wrapped : Settings → Float → Float
 wrapped s x =
     cond (le (s .«loop_end» .0) x || lt x (s .«loop_start» .0))
-    (add binary64 (s .«loop_start» .0) (remEuclid binary64 (sub binary64 x (s .«loop_start» .0)) (sub binary64 (s .«loop_end» .0) (s .«loop_start» .0))))
+    (add binary64 (s .«loop_start» .0)
+    (remEuclid binary64 (sub binary64 x (s .«loop_start» .0)) (sub binary64 (s .«loop_end» .0) (s .«loop_start» .0))))
     x
 
 unfoldable pub turned : Settings → Playhead → Playhead

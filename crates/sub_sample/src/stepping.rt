@@ -5,7 +5,8 @@ ghost use mathlib.Core.Bool.{false, not, _&&_, _||_, cond};
 ghost use lib.Ieee.{lt, le};
 ghost use Rattle.sub_sample.specs.Near.{isNear};
 ghost use Rattle.seconds.specs.Seconds.{none};
-ghost use Rattle.sub_sample.specs.SubSample.{headOf, infoOf, instantOf, snapped, isIdle, atLeastZero, atMost, startOffset, begun, snappedToLoop, enters, wrapped, turned, settled, playhead, infoAt, advanced, placed, stepped, infoOfSample};
+ghost use Rattle.sub_sample.specs.SubSample.{headOf, infoOf, instantOf, snapped, isIdle, atLeastZero, atMost, startOffset, begun};
+ghost use Rattle.sub_sample.specs.SubSample.{snappedToLoop, enters, wrapped, turned, settled, playhead, infoAt, advanced, placed, stepped, infoOfSample};
 use super::PlaybackInfo;
 use super::Playhead;
 use super::SampleStep;
@@ -97,7 +98,8 @@ fn is_past_loop_end(s: Settings, offset: f64) -> bool
 
 // An offset past the loop's end is its end.
 fn at_loop_end(s: Settings, offset: f64) -> f64
-    ensures { λ r. ⌜ r ≡ cond (s .«is_looping» && le none (s .«computed_playback_rate») && lt (s .«loop_end» .0) offset) (s .«loop_end» .0) offset ⌝ }
+    ensures { λ r. ⌜ r
+        ≡ cond (s .«is_looping» && le none (s .«computed_playback_rate») && lt (s .«loop_end» .0) offset) (s .«loop_end» .0) offset ⌝ }
 {
     if is_past_loop_end(s, offset) {
         s.loop_end.0
@@ -121,7 +123,8 @@ fn is_before_loop_start(s: Settings, offset: f64) -> bool
 
 // An offset before the loop's start is its start.
 fn at_loop_start(s: Settings, offset: f64) -> f64
-    ensures { λ r. ⌜ r ≡ cond (s .«is_looping» && lt (s .«computed_playback_rate») none && lt offset (s .«loop_start» .0)) (s .«loop_start» .0) offset ⌝ }
+    ensures { λ r. ⌜ r
+        ≡ cond (s .«is_looping» && lt (s .«computed_playback_rate») none && lt offset (s .«loop_start» .0)) (s .«loop_start» .0) offset ⌝ }
 {
     if is_before_loop_start(s, offset) {
         s.loop_start.0
@@ -211,7 +214,9 @@ fn wrapped(s: Settings, x: f64) -> f64
 
 // The playhead of a loop at the position x.
 fn turned_at(s: Settings, h: Playhead, x: f64) -> Playhead
-    ensures { λ r. ⌜ r ≡ headOf (h .«start_time» .0) (h .offset .0) (cond (h .«entered_loop» || enters s (h .offset .0) x) (wrapped s x) x) (h .«buffer_time_elapsed» .0) (h .started) (h .«entered_loop» || enters s (h .offset .0) x) ⌝ }
+    ensures { λ r. ⌜ r
+        ≡ headOf (h .«start_time» .0) (h .offset .0) (cond (h .«entered_loop» || enters s (h .offset .0) x) (wrapped s x) x)
+        (h .«buffer_time_elapsed» .0) (h .started) (h .«entered_loop» || enters s (h .offset .0) x) ⌝ }
 {
     if has_entered(s, h, x) {
         return Playhead {

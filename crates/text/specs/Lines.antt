@@ -38,7 +38,8 @@ channelLines (suc n) c words = runs c 0 (take 128 words) ++ channelLines n (c + 
 
 -- '`B`, block number, keep-alive, ended, channels'
 unfoldable pub blockLine : ℕ → Bool → Bool → ℕ → List ℕ
-blockLine number keep ended channels = 66 ∷ SPACE ∷ (field number SPACE ++ (field (flag keep) SPACE ++ (field (flag ended) SPACE ++ field channels NEWLINE)))
+blockLine number keep ended channels =
+    66 ∷ SPACE ∷ (field number SPACE ++ (field (flag keep) SPACE ++ (field (flag ended) SPACE ++ field channels NEWLINE)))
 
 unfoldable pub blockText : ℕ → Bool → Bool → ℕ → List ℕ → List ℕ
 blockText number keep ended channels words = blockLine number keep ended channels ++ channelLines channels 0 words

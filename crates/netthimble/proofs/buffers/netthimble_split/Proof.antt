@@ -19,7 +19,13 @@ same-length-2 : tie.Need-same-length-2
 same-length-2 c = search needs
 
 returns : tie.Need-returns
-returns c = (c .parted-for .ensures ∙ ap partedFor (c .before .before .before .before .before .split .ensures .0), c .before .before .before .before .before .split .ensures .1 ∙ parted-same (c .before .before .before .before .before .split .ensures .0) _ _, c .before .before .before .before .before .split .ensures .2 ∙ parted-same (c .before .before .before .before .before .split .ensures .0) _ _)
+returns c = (
+  c .parted-for .ensures ∙ ap partedFor (c .before .before .before .before .before .split .ensures .0),
+  c .before .before .before .before .before .split .ensures .1 ∙ parted-same (c .before .before .before .before .before .split .ensures .0) _
+      _,
+  c .before .before .before .before .before .split .ensures .2 ∙ parted-same
+      (c .before .before .before .before .before .split .ensures .0) _ _,
+)
 
 pub netthimble-split-spec : {M : Type 1} → statement M
 netthimble-split-spec =
