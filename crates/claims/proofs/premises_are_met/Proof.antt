@@ -52,15 +52,24 @@ met calls blocks typed clips starts time switches stops points plain played = re
 }
 
 looped : Met loopedCalls 2
-unfolding accepted accepts next opening playing handled buffered onStart onStop onLoop badTime clamped clampedStart clampedEnd fresh validRate validShape duration rendered refusal badBlockTime badRate badSamples plan isAligned startAt alignedPlan subSamplePlan settings firstHead headAt hasEnded turnsOver firstFrame endsWithin played nextFrame lastWrap alignedPosition dt blockSeconds blockEnd idle roundAway ofBits ofInt round sum add mul div rem lt le eq ne neg sub toUnsigned fits
+unfolding accepted accepts next opening playing handled buffered onStart onStop onLoop badTime clamped clampedStart clampedEnd fresh validRate validShape
+    duration rendered refusal badBlockTime badRate badSamples plan isAligned startAt alignedPlan subSamplePlan settings firstHead headAt hasEnded
+    turnsOver firstFrame endsWithin played nextFrame lastWrap alignedPosition dt blockSeconds blockEnd idle roundAway ofBits ofInt round sum add mul div
+    rem lt le eq ne neg sub toUnsigned fits
 looped = met loopedCalls 2 tt refl refl tt (lit≤ tt) (lit≤ tt) refl ((refl, refl, refl), ((refl, refl, refl), tt)) refl
 
 plain : Met plainCalls 2
-unfolding accepted accepts next opening playing handled buffered onStart onStop onLoop badTime clamped clampedStart clampedEnd fresh validRate validShape duration rendered refusal badBlockTime badRate badSamples plan isAligned startAt alignedPlan subSamplePlan settings firstHead headAt hasEnded turnsOver firstFrame endsWithin played nextFrame lastWrap alignedPosition dt blockSeconds blockEnd idle roundAway ofBits ofInt round sum add mul div rem lt le eq ne neg sub toUnsigned fits
+unfolding accepted accepts next opening playing handled buffered onStart onStop onLoop badTime clamped clampedStart clampedEnd fresh validRate validShape
+    duration rendered refusal badBlockTime badRate badSamples plan isAligned startAt alignedPlan subSamplePlan settings firstHead headAt hasEnded
+    turnsOver firstFrame endsWithin played nextFrame lastWrap alignedPosition dt blockSeconds blockEnd idle roundAway ofBits ofInt round sum add mul div
+    rem lt le eq ne neg sub toUnsigned fits
 plain = met plainCalls 2 tt refl refl tt (lit≤ tt) (lit≤ tt) refl ((refl, refl, refl), ((refl, refl, refl), tt)) refl
 
 stopped : Met stoppedCalls 3
-unfolding accepted accepts next opening playing handled buffered onStart onStop onLoop badTime clamped clampedStart clampedEnd fresh validRate validShape duration rendered refusal badBlockTime badRate badSamples plan isAligned startAt alignedPlan subSamplePlan settings firstHead headAt hasEnded turnsOver firstFrame endsWithin played nextFrame lastWrap alignedPosition dt blockSeconds blockEnd idle roundAway ofBits ofInt round sum add mul div rem lt le eq ne neg sub toUnsigned fits
+unfolding accepted accepts next opening playing handled buffered onStart onStop onLoop badTime clamped clampedStart clampedEnd fresh validRate validShape
+    duration rendered refusal badBlockTime badRate badSamples plan isAligned startAt alignedPlan subSamplePlan settings firstHead headAt hasEnded
+    turnsOver firstFrame endsWithin played nextFrame lastWrap alignedPosition dt blockSeconds blockEnd idle roundAway ofBits ofInt round sum add mul div
+    rem lt le eq ne neg sub toUnsigned fits
 stopped = met stoppedCalls 3 tt refl refl tt (lit≤ tt) (lit≤ tt) refl ((refl, refl, refl), ((refl, refl, refl), ((refl, refl, refl), tt))) refl
 
 returns : tie.Need-returns

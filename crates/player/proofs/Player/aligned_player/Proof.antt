@@ -36,7 +36,19 @@ moved-requires c κs = search needs
 
 returns : tie.Need-returns
 unfolding alignedPlan
-returns c = simp (c .moved .ensures, c .before .has-ended .ensures, c .before .before .has-begun .ensures, c .before .before .before .before .block-seconds .ensures, c .before .before .before .before .before .aligned-position .ensures, c .before .before .before .before .before .before .clip-seconds .ensures, c .before .before .before .before .before .before .before .last-wrap .ensures, c .before .before .before .before .before .before .before .before .first-of .ensures, c .before .before .before .before .before .before .before .before .before .turns-over .ensures, c .before .before .before .before .before .before .before .before .before .before .start-at .ensures)
+returns c =
+    simp (
+      c .moved .ensures,
+      c .before .has-ended .ensures,
+      c .before .before .has-begun .ensures,
+      c .before .before .before .before .block-seconds .ensures,
+      c .before .before .before .before .before .aligned-position .ensures,
+      c .before .before .before .before .before .before .clip-seconds .ensures,
+      c .before .before .before .before .before .before .before .last-wrap .ensures,
+      c .before .before .before .before .before .before .before .before .first-of .ensures,
+      c .before .before .before .before .before .before .before .before .before .turns-over .ensures,
+      c .before .before .before .before .before .before .before .before .before .before .start-at .ensures,
+    )
 
 pub aligned-player-spec : {M : Type 1} → statement M
 aligned-player-spec = tie.close (tie.spec start-at-requires turns-over-requires first-of-requires last-wrap-requires clip-seconds-requires aligned-position-requires block-seconds-requires has-begun-requires has-ended-requires moved-requires returns)

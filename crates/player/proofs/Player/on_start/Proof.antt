@@ -35,7 +35,18 @@ clamp-loop-boundaries-requires c κs = search needs
 
 returns-5 : tie.Need-returns-5
 unfolding onStart
-returns-5 c = simp (sym (c .before .before .before .before .before .before .before .before .before .before .is-bad-time .ensures), c .before .before .before .before .before .before .before .before .before .if1 .left, sym (c .before .before .before .before .before .before .before .before .is-bad-time2 .ensures), c .before .before .before .before .before .before .before .if2 .left, sym (c .before .before .before .before .before .before .is-bad-time3 .ensures), c .before .before .before .before .before .if3 .left, c .before .before .before .before .if4 .left, c .clamp-loop-boundaries .ensures)
+returns-5 c =
+    simp (
+      sym (c .before .before .before .before .before .before .before .before .before .before .is-bad-time .ensures),
+      c .before .before .before .before .before .before .before .before .before .if1 .left,
+      sym
+          (c .before .before .before .before .before .before .before .before .is-bad-time2 .ensures),
+      c .before .before .before .before .before .before .before .if2 .left,
+      sym (c .before .before .before .before .before .before .is-bad-time3 .ensures),
+      c .before .before .before .before .before .if3 .left,
+      c .before .before .before .before .if4 .left,
+      c .clamp-loop-boundaries .ensures,
+    )
 
 pub on-start-spec : {M : Type 1} → statement M
 on-start-spec = tie.close (tie.spec is-bad-time-requires returns is-bad-time-requires-2 returns-2 is-bad-time-requires-3 returns-3 returns-4 clamp-loop-boundaries-requires returns-5)

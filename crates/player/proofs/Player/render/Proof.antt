@@ -28,7 +28,13 @@ same-length-2 : tie.Need-same-length-2
 same-length-2 c = search needs
 
 returns-2 : tie.Need-returns-2
-returns-2 c = told-silent _ _ _ _ (stopped _ _ _ _ (sym (c .before .before .before .before .before .before .before .before .before .before .is-over .ensures) ∙ c .before .before .before .before .before .before .before .before .before .if1 .left) (rw (c .before .before .before .before .before .before .before .before .block-end .ensures) at (c .before .before .before .before .before .before .if2 .taken)) (rw (c .before .before .before .before .before .before .before .before .block-end .ensures) at (c .before .before .before .before .if3 .taken))) (c .before .before .silent-block2 .ensures)
+returns-2 c =
+    told-silent _ _ _ _ (stopped _ _ _ _ (sym (c .before .before .before .before .before .before .before .before .before .before .is-over .ensures) ∙
+    c .before .before .before .before .before .before .before .before .before .if1 .left)
+    (rw (c .before .before .before .before .before .before .before .before .block-end .ensures) at
+    (c .before .before .before .before .before .before .if2 .taken))
+    (rw (c .before .before .before .before .before .before .before .before .block-end .ensures) at (c .before .before .before .before .if3 .taken)))
+    (c .before .before .silent-block2 .ensures)
 
 silent-block-requires-3 : tie.Need-silent-block-requires-3
 silent-block-requires-3 c κs = c .before .before .before .before .before .before .before .before .before .before .before .pre .0
@@ -37,7 +43,14 @@ same-length-3 : tie.Need-same-length-3
 same-length-3 c = search needs
 
 returns-3 : tie.Need-returns-3
-returns-3 c = told-silent _ _ _ _ (waiting _ _ _ _ (sym (c .before .before .before .before .before .before .before .before .before .before .before .is-over .ensures) ∙ c .before .before .before .before .before .before .before .before .before .before .if1 .left) (rw (c .before .before .before .before .before .before .before .before .before .block-end .ensures) at (c .before .before .before .before .before .before .before .if2 .taken)) (rw (c .before .before .before .before .before .before .before .before .before .block-end .ensures) at (c .before .before .before .before .before .if3 .left))) (c .before .before .silent-block3 .ensures)
+returns-3 c =
+    told-silent _ _ _ _ (waiting _ _ _ _ (sym
+    (c .before .before .before .before .before .before .before .before .before .before .before .is-over .ensures) ∙
+    c .before .before .before .before .before .before .before .before .before .before .if1 .left)
+    (rw (c .before .before .before .before .before .before .before .before .before .block-end .ensures) at
+    (c .before .before .before .before .before .before .before .if2 .taken))
+    (rw (c .before .before .before .before .before .before .before .before .before .block-end .ensures) at
+    (c .before .before .before .before .before .if3 .left))) (c .before .before .silent-block3 .ensures)
 
 silent-block-requires-4 : tie.Need-silent-block-requires-4
 silent-block-requires-4 c κs = search needs
@@ -46,7 +59,12 @@ same-length-4 : tie.Need-same-length-4
 same-length-4 c = search needs
 
 returns-4 : tie.Need-returns-4
-returns-4 c = told-silent _ _ _ _ (empty _ _ _ _ (sym (c .before .before .before .before .before .before .before .before .before .before .is-over .ensures) ∙ c .before .before .before .before .before .before .before .before .before .if1 .left) (rw (c .before .before .before .before .before .before .before .before .block-end .ensures) at (c .before .before .before .before .before .before .if2 .left)) (c .before .before .before .before .if4 .taken)) (c .before .before .silent-block4 .ensures)
+returns-4 c =
+    told-silent _ _ _ _ (empty _ _ _ _ (sym (c .before .before .before .before .before .before .before .before .before .before .is-over .ensures) ∙
+    c .before .before .before .before .before .before .before .before .before .if1 .left)
+    (rw (c .before .before .before .before .before .before .before .before .block-end .ensures) at
+    (c .before .before .before .before .before .before .if2 .left)) (c .before .before .before .before .if4 .taken))
+    (c .before .before .silent-block4 .ensures)
 
 computed-rate-requires : tie.Need-computed-rate-requires
 computed-rate-requires c κs = search needs
@@ -62,7 +80,16 @@ same-length-5 c = search needs
 
 returns-5 : tie.Need-returns-5
 unfolding alignedPlan
-returns-5 c = told _ _ _ _ (aligned _ _ _ _ (sym (c .before .before .before .before .before .before .before .before .before .before .before .before .before .is-over .ensures) ∙ c .before .before .before .before .before .before .before .before .before .before .before .before .if1 .left) (rw (c .before .before .before .before .before .before .before .before .before .before .before .block-end .ensures) at (c .before .before .before .before .before .before .before .before .before .if2 .left)) (c .before .before .before .before .before .before .before .if4 .left) (rw (c .before .before .before .before .before .before .computed-rate .ensures) at (sym (c .before .before .before .before .before .is-aligned .ensures) ∙ c .before .before .before .before .if5 .taken))) (rw (c .before .before .before .before .before .before .computed-rate .ensures) at (c .before .before .aligned-block .ensures))
+returns-5 c =
+    told _ _ _ _ (aligned _ _ _ _ (sym
+    (c .before .before .before .before .before .before .before .before .before .before .before .before .before .is-over .ensures) ∙
+    c .before .before .before .before .before .before .before .before .before .before .before .before .if1 .left)
+    (rw (c .before .before .before .before .before .before .before .before .before .before .before .block-end .ensures) at
+    (c .before .before .before .before .before .before .before .before .before .if2 .left))
+    (c .before .before .before .before .before .before .before .if4 .left)
+    (rw (c .before .before .before .before .before .before .computed-rate .ensures) at
+    (sym (c .before .before .before .before .before .is-aligned .ensures) ∙ c .before .before .before .before .if5 .taken)))
+    (rw (c .before .before .before .before .before .before .computed-rate .ensures) at (c .before .before .aligned-block .ensures))
 
 sub-sample-block-requires : tie.Need-sub-sample-block-requires
 sub-sample-block-requires c κs = let v = lent _ _ (c .before .before .before .before .before .before .before .before .before .before .before .before .before .pre .1) (c .before .before .before .before .if4 .left) in (search needs, v .few, v .short, v .full)
@@ -72,7 +99,16 @@ same-length-6 c = search needs
 
 returns-6 : tie.Need-returns-6
 unfolding subSamplePlan
-returns-6 c = told _ _ _ _ (sub-sample _ _ _ _ (sym (c .before .before .before .before .before .before .before .before .before .before .before .before .before .is-over .ensures) ∙ c .before .before .before .before .before .before .before .before .before .before .before .before .if1 .left) (rw (c .before .before .before .before .before .before .before .before .before .before .before .block-end .ensures) at (c .before .before .before .before .before .before .before .before .before .if2 .left)) (c .before .before .before .before .before .before .before .if4 .left) (rw (c .before .before .before .before .before .before .computed-rate .ensures) at (sym (c .before .before .before .before .before .is-aligned .ensures) ∙ c .before .before .before .before .if5 .left))) (rw (c .before .before .before .before .before .before .computed-rate .ensures) at (c .before .before .sub-sample-block .ensures))
+returns-6 c =
+    told _ _ _ _ (sub-sample _ _ _ _ (sym
+    (c .before .before .before .before .before .before .before .before .before .before .before .before .before .is-over .ensures) ∙
+    c .before .before .before .before .before .before .before .before .before .before .before .before .if1 .left)
+    (rw (c .before .before .before .before .before .before .before .before .before .before .before .block-end .ensures) at
+    (c .before .before .before .before .before .before .before .before .before .if2 .left))
+    (c .before .before .before .before .before .before .before .if4 .left)
+    (rw (c .before .before .before .before .before .before .computed-rate .ensures) at
+    (sym (c .before .before .before .before .before .is-aligned .ensures) ∙ c .before .before .before .before .if5 .left)))
+    (rw (c .before .before .before .before .before .before .computed-rate .ensures) at (c .before .before .sub-sample-block .ensures))
 
 pub render-spec : {M : Type 1} → statement M
 render-spec = tie.close (tie.spec is-over-requires silent-block-requires same-length returns block-end-requires silent-block-requires-2 same-length-2 returns-2 silent-block-requires-3 same-length-3 returns-3 silent-block-requires-4 same-length-4 returns-4 computed-rate-requires is-aligned-requires aligned-block-requires same-length-5 returns-5 sub-sample-block-requires same-length-6 returns-6)

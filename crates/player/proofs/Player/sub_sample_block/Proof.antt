@@ -30,8 +30,19 @@ same-length c = search needs
 returns : tie.Need-returns
 unfolding subSamplePlan
 returns c =
-    let filled = c .before .before .before .before .before .before .before .before .before .before .before .before .fill-infos .ensures in
-    (rw (c .report .ensures, c .before .sub-sample-player .ensures, filled .1, c .before .before .before .before .before .before .before .before .before .before .before .before .before .before .settings .ensures, c .before .before .before .before .before .before .before .before .before .before .before .before .before .first-head .ensures), c .before .before .before .before .write-interpolated .ensures ∙ by-infos _ _ _ _ _ _ _ (filled .0) ∙ rw (c .before .before .before .before .before .before .before .before .before .before .before .before .before .before .settings .ensures, c .before .before .before .before .before .before .before .before .before .before .before .before .before .first-head .ensures))
+    let filled = c .before .before .before .before .before .before .before .before .before .before .before .before .fill-infos .ensures in (
+      rw (
+        c .report .ensures,
+        c .before .sub-sample-player .ensures,
+        filled .1,
+        c .before .before .before .before .before .before .before .before .before .before .before .before .before .before .settings .ensures,
+        c .before .before .before .before .before .before .before .before .before .before .before .before .before .first-head .ensures,
+      ),
+      c .before .before .before .before .write-interpolated .ensures ∙ by-infos _ _ _ _ _ _ _ (filled .0) ∙ rw (
+        c .before .before .before .before .before .before .before .before .before .before .before .before .before .before .settings .ensures,
+        c .before .before .before .before .before .before .before .before .before .before .before .before .before .first-head .ensures,
+      ),
+    )
 
 pub sub-sample-block-spec : {M : Type 1} → statement M
 sub-sample-block-spec = tie.close (tie.spec settings-requires first-head-requires fill-infos-requires write-interpolated-requires sub-sample-player-requires report-requires same-length returns)
