@@ -1,136 +1,189 @@
-// `R`, the messages and `Z`.
-use super::machine::Held;
-use super::machine::Machine;
-use super::print::put;
-use super::print::put_all;
-use super::print::put_end;
-use super::print::put_f64;
-use super::print::put_flag;
-use super::scan::byte;
-use super::scan::ends;
+// The lines that the player obeys.
+use super::calls::copy_words;
+use super::orders::BLOCK;
+use super::orders::BLOCK_SAMPLES;
+use super::orders::CLIP;
+use super::orders::Order;
+use super::orders::RATE;
+use super::orders::SHOW;
+use super::print::put_channels;
+use super::print::put_form;
+use super::print::put_refusal;
 use super::scan::f32_of;
 use super::scan::f64_of;
-use super::scan::hex;
-use super::scan::start;
+use super::scan::smaller;
 use player::ControlMessage;
+use player::Handled;
 use player::Player;
+use player::Rendered;
+use rounding::to_pattern_f64;
 
-// `R rate`: a fresh player, or none.
-pub fn fresh(m: Machine, line: &[u8], text: &mut [u8]) -> Machine {
-    let rate = hex(line, start(1), 8);
-    if !ends(line, rate) {
-        return m.refused(text, 0);
-    }
-    let answer = Player::new(f32_of(rate));
-    m.without_player().handled(text, answer, 0)
+const OUTPUT: usize = 4_096;
+
+// The player, whether an `R` line made it, and its clip's length; how far the text is filled.
+pub struct Machine {
+    pub player: Player,
+    pub made: bool,
+    pub clip: usize,
+    pub at: usize,
 }
 
-fn sent(m: Machine, text: &mut [u8], message: ControlMessage) -> Machine {
-    let held = m.held;
-    match held {
-        Held::Nothing => m.refused(text, 0),
-        Held::One(player) => {
-            let answer = player.handle_control_message(message);
-            let clip = m.clip;
-            m.handled(text, answer, clip)
+// The player after a message, a clip or an `R` line; any other order leaves it alone.
+fn handled(player: Player, order: Order, words: &[u32]) -> Handled {
+    let v = order.v;
+    let x = f64_of(v[0]);
+    let due = order.due;
+    match due {
+        0 => Player::new(f32_of(v[0])),
+        5 => player.handle_control_message(ControlMessage::Start(x, f64_of(v[1]), f64_of(v[2]))),
+        6 => player.handle_control_message(ControlMessage::Stop(x)),
+        7 => player.handle_control_message(ControlMessage::LoopStart(x)),
+        8 => player.handle_control_message(ControlMessage::LoopEnd(x)),
+        9 => player.handle_control_message(ControlMessage::Loop(false)),
+        10 => player.handle_control_message(ControlMessage::Loop(true)),
+        11 => player.set_buffer(v[0] as usize, v[1] as usize, f32_of(v[2]), words),
+        _ => Handled::Done(player),
+    }
+}
+
+// Keeps the words of a clip that was accepted, and answers the clip's length.
+fn kept(due: usize, before: usize, words: &[u32], clip: &mut [u32]) -> usize {
+    if due == RATE {
+        return 0;
+    }
+    if due == CLIP {
+        copy_words(words, clip);
+        return words.len();
+    }
+    before
+}
+
+// Messages, clips and `R` lines.
+pub fn told(
+    m: Machine,
+    at: usize,
+    order: Order,
+    text: &mut [u8],
+    words: &[u32],
+    clip: &mut [u32],
+) -> Machine {
+    let player = m.player;
+    let n = smaller(order.wanted, words.len());
+    let w = &words[..n];
+    match handled(player, order, w) {
+        Handled::Done(next) => Machine {
+            player: next,
+            made: m.made || order.due == RATE,
+            clip: kept(order.due, m.clip, w, clip),
+            at,
+        },
+        Handled::Refused(number) => Machine {
+            player,
+            made: order.due != RATE,
+            clip: m.clip,
+            at: put_refusal(text, at, number),
+        },
+    }
+}
+
+fn bit(on: bool) -> u64 {
+    if on { 1 } else { 0 }
+}
+
+// Renders a block into `out`, and prints it.
+fn rendered(m: Machine, v: [u64; 8], text: &mut [u8], samples: &[u32], out: &mut [u32]) -> Machine {
+    let player = m.player;
+    match player.process(out, samples, f64_of(v[0]), f32_of(v[1]), f64_of(v[2])) {
+        Rendered::Refused(number) => Machine {
+            player,
+            made: true,
+            clip: m.clip,
+            at: put_refusal(text, m.at, number),
+        },
+        Rendered::Block(report) => {
+            let next = report.player;
+            let position = to_pattern_f64(report.position.0);
+            let channels = report.channels;
+            let values = [
+                bit(report.keep_alive),
+                bit(report.ended),
+                channels as u64,
+                position,
+            ];
+            let a = put_form(text, m.at, b"B d d d f\n", &values);
+            Machine {
+                player: next,
+                made: true,
+                clip: m.clip,
+                at: put_channels(text, a, channels, 128, out),
+            }
         }
     }
 }
 
-// `S when offset duration`.
-fn start_line(m: Machine, line: &[u8], text: &mut [u8]) -> Machine {
-    let when = hex(line, start(1), 16);
-    let offset = hex(line, when, 16);
-    let duration = hex(line, offset, 16);
-    if ends(line, duration) {
-        return sent(
-            m,
-            text,
-            ControlMessage::Start(f64_of(when), f64_of(offset), f64_of(duration)),
-        );
-    }
-    m.refused(text, 0)
-}
-
-// `L 0`, `L 1`.
-fn loop_line(m: Machine, line: &[u8], text: &mut [u8]) -> Machine {
-    if line.len() == 3 && byte(line, 1) == b' ' {
-        if byte(line, 2) == b'0' {
-            return sent(m, text, ControlMessage::Loop(false));
-        }
-        if byte(line, 2) == b'1' {
-            return sent(m, text, ControlMessage::Loop(true));
-        }
-    }
-    m.refused(text, 0)
-}
-
-// A message line.
-pub fn message(m: Machine, line: &[u8], text: &mut [u8], letter: u8) -> Machine {
-    if letter == b'S' {
-        return start_line(m, line, text);
-    }
-    if letter == b'L' {
-        return loop_line(m, line, text);
-    }
-    let value = hex(line, start(1), 16);
-    if !ends(line, value) {
-        return m.refused(text, 0);
-    }
-    let x = f64_of(value);
-    match letter {
-        b'T' => sent(m, text, ControlMessage::Stop(x)),
-        b'P' => sent(m, text, ControlMessage::LoopStart(x)),
-        _ => sent(m, text, ControlMessage::LoopEnd(x)),
+// The lengths of the output and of the samples that are lent, where the line names them.
+fn output_length(order: Order) -> usize {
+    let v = order.v;
+    if order.due == BLOCK {
+        OUTPUT
+    } else {
+        v[3] as usize
     }
 }
 
-// The times and the loop.
-fn put_settings(text: &mut [u8], at: usize, p: Player) -> usize {
-    let a = put_f64(text, at, p.start_time.0);
-    let b = put_f64(text, a, p.stop_time.0);
-    let c = put_f64(text, b, p.offset.0);
-    let d = put_f64(text, c, p.duration.0);
-    let e = put_flag(text, d, p.loop_state.is_looping);
-    let f = put_f64(text, e, p.loop_state.start.0);
-    put_f64(text, f, p.loop_state.end.0)
+fn samples_length(order: Order, clip: usize) -> usize {
+    let v = order.v;
+    if order.due == BLOCK_SAMPLES {
+        v[4] as usize
+    } else {
+        clip
+    }
 }
 
-// What the blocks moved on.
-fn put_state(text: &mut [u8], at: usize, p: Player) -> usize {
-    let a = put_f64(text, at, p.render_state.buffer_time.0);
-    let b = put_flag(text, a, p.render_state.started);
-    let c = put_flag(text, b, p.render_state.entered_loop);
-    let d = put_f64(text, c, p.render_state.buffer_time_elapsed.0);
-    let e = put_flag(text, d, p.render_state.is_aligned);
-    put_flag(text, e, p.render_state.ended)
+// `B` lines.
+pub fn block(m: Machine, order: Order, text: &mut [u8], clip: &[u32], out: &mut [u32]) -> Machine {
+    if order.due < BLOCK {
+        return m;
+    }
+    if order.due > BLOCK_SAMPLES {
+        return m;
+    }
+    let n = smaller(output_length(order), out.len());
+    let k = smaller(samples_length(order, m.clip), clip.len());
+    let v = order.v;
+    rendered(m, v, text, &clip[..k], &mut out[..n])
 }
 
-// The marks and the last accepted block's time.
-fn put_marks(text: &mut [u8], at: usize, p: Player) -> usize {
-    let a = put_flag(text, at, p.has_start);
-    let b = put_flag(text, a, p.has_buffer);
-    if p.has_block {
-        return put_f64(text, b, p.block_time.0);
-    }
-    put_all(text, b, b" none")
+// The player's numbers, as `Z` prints them.
+fn state(p: Player) -> [u64; 16] {
+    [
+        to_pattern_f64(p.start_time.0),
+        to_pattern_f64(p.stop_time.0),
+        to_pattern_f64(p.offset.0),
+        to_pattern_f64(p.duration.0),
+        bit(p.loop_state.is_looping),
+        to_pattern_f64(p.loop_state.start.0),
+        to_pattern_f64(p.loop_state.end.0),
+        to_pattern_f64(p.render_state.buffer_time.0),
+        bit(p.render_state.started),
+        bit(p.render_state.entered_loop),
+        to_pattern_f64(p.render_state.buffer_time_elapsed.0),
+        bit(p.render_state.is_aligned),
+        bit(p.render_state.ended),
+        bit(p.has_start),
+        bit(p.has_buffer),
+        to_pattern_f64(p.block_time.0),
+    ]
 }
 
-// `Z`: the player.
-pub fn show(m: Machine, line: &[u8], text: &mut [u8]) -> Machine {
-    if line.len() != 1 {
-        return m.refused(text, 0);
+// `Z` lines.
+pub fn shown(text: &mut [u8], at: usize, due: usize, player: Player) -> usize {
+    if due != SHOW {
+        return at;
     }
-    let held = m.held;
-    match held {
-        Held::Nothing => m.refused(text, 0),
-        Held::One(player) => {
-            let a = put(text, m.at, b'Z');
-            let b = put_settings(text, a, player);
-            let c = put_state(text, b, player);
-            let d = put_marks(text, c, player);
-            let e = put_end(text, d);
-            m.with_at(e)
-        }
+    let values = state(player);
+    if player.has_block {
+        return put_form(text, at, b"Z f f f f d f f f d d f d d d d f\n", &values);
     }
+    put_form(text, at, b"Z f f f f d f f f d d f d d d d none\n", &values)
 }

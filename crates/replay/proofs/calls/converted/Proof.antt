@@ -1,28 +1,35 @@
 -- `replay::calls::converted` is safe and ends. Assumes nothing.
 use mathlib.Core.Path.{sym}
 use native.Mathlib.Omega.{arith}
+use lib.ListN.{length}
 use lib.Seq.{length-take-le}
 use borrow.Author.Needs.{needs}
 use Rattle.replay.proofs.calls.converted.Statement.{statement}
 use Rattle.replay.proofs.calls.converted.Tie as tie
 
-converted-shape-requires : tie.Need-converted-shape-requires
-converted-shape-requires c κs = search needs
+array-read-shape-of : tie.Need-array-read-shape-of
+array-read-shape-of c = search needs
 
-enum-known-refusal : tie.Need-enum-known-refusal
-enum-known-refusal c = search needs
+array-read-shape-of-2 : tie.Need-array-read-shape-of-2
+array-read-shape-of-2 c = search needs
 
-refused-requires : tie.Need-refused-requires
-refused-requires c κs = search needs
+array-read-shape-of-3 : tie.Need-array-read-shape-of-3
+array-read-shape-of-3 c = search needs
 
-enum-known-result : tie.Need-enum-known-result
-enum-known-result c = search needs
+shape-of-requires : tie.Need-shape-of-requires
+shape-of-requires c κs = search needs
 
-size-requires : tie.Need-size-requires
-size-requires c κs = search needs
+array-read-f32-of : tie.Need-array-read-f32-of
+array-read-f32-of c = search needs
 
-refused-requires-2 : tie.Need-refused-requires-2
-refused-requires-2 c κs = search needs
+f32-of-requires : tie.Need-f32-of-requires
+f32-of-requires c κs = search needs
+
+converted-size-requires : tie.Need-converted-size-requires
+converted-size-requires c κs = search needs
+
+put-refusal-requires : tie.Need-put-refusal-requires
+put-refusal-requires c κs = search needs
 
 same-length : tie.Need-same-length
 same-length c = search needs
@@ -39,50 +46,36 @@ slice-aggregate-convert c = sym (length-take-le _ _ (omega arith))
 convert-requires : tie.Need-convert-requires
 convert-requires c κs = search needs
 
-slice-reshare-prefix-made : tie.Need-slice-reshare-prefix-made
-slice-reshare-prefix-made c = search needs
-
-slice-aggregate-made : tie.Need-slice-aggregate-made
-slice-aggregate-made c = sym (length-take-le _ _ (omega arith))
-
-made-requires : tie.Need-made-requires
-made-requires c κs = search needs
+put-made-requires : tie.Need-put-made-requires
+put-made-requires c κs = search needs
 
 same-length-2 : tie.Need-same-length-2
 same-length-2 c = search needs
 
-returns-2 : tie.Need-returns-2
-returns-2 c = search needs
-
 same-length-3 : tie.Need-same-length-3
 same-length-3 c = search needs
 
-same-length-4 : tie.Need-same-length-4
-same-length-4 c = search needs
-
-returns-3 : tie.Need-returns-3
-returns-3 c = search needs
+returns-2 : tie.Need-returns-2
+returns-2 c = search needs
 
 pub converted-spec : {M : Type 1} → statement M
 converted-spec =
     tie.close
     (tie.spec
-    converted-shape-requires
-    enum-known-refusal
-    refused-requires
-    enum-known-result
-    size-requires
-    refused-requires-2
+    array-read-shape-of
+    array-read-shape-of-2
+    array-read-shape-of-3
+    shape-of-requires
+    array-read-f32-of
+    f32-of-requires
+    converted-size-requires
+    put-refusal-requires
     same-length
     returns
     slice-relend-prefix-convert
     slice-aggregate-convert
     convert-requires
-    slice-reshare-prefix-made
-    slice-aggregate-made
-    made-requires
+    put-made-requires
     same-length-2
-    returns-2
     same-length-3
-    same-length-4
-    returns-3)
+    returns-2)

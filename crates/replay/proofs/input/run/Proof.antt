@@ -1,33 +1,68 @@
 -- `replay::input::run` is safe and ends. The invariant bounds what is read and keeps the lengths of what is lent. Assumes nothing.
 use mathlib.Core.Path.{_≡_}
+use Prim.Native.Nat.{_≤_}
+use native.Mathlib.Omega.{arith}
 use lib.ListN.{length}
 use borrow.Author.Needs.{needs}
 use Rattle.replay.proofs.input.run.Statement.{statement}
 use Rattle.replay.proofs.input.run.Tie as tie
 
 abbrev Inv-loop : tie.InvT-loop
-Inv-loop piece₀ text₀ clip₀ words₀ first₀ rest₀ r₀ turns₀ piece text clip words first rest r turns = (length piece ≡ length piece₀) × (length text ≡ length text₀) × (length clip ≡ length clip₀) × (length words ≡ length words₀) × (length first ≡ length first₀) × (length rest ≡ length rest₀)
+Inv-loop piece₀ text₀ clip₀ words₀ first₀ rest₀ m₀ order₀ r₀ turns₀ piece text clip words first rest m order r turns =
+    (r .from ≤ r .end) × (r .end ≤ length piece₀) × (length piece ≡ length piece₀) × (length text ≡ length text₀) × (length clip ≡ length clip₀) × (length words ≡ length words₀) × (length first ≡ length first₀) × (length rest ≡ length rest₀)
 
 abbrev μ-loop : tie.MeasureT-loop
-μ-loop piece₀ text₀ clip₀ words₀ first₀ rest₀ r₀ turns₀ piece text clip words first rest r turns = turns
+μ-loop piece₀ text₀ clip₀ words₀ first₀ rest₀ m₀ order₀ r₀ turns₀ piece text clip words first rest m order r turns = turns
 
-new-requires : tie.Need-new-requires Inv-loop μ-loop
-new-requires c κs = search needs
+nothing-requires : tie.Need-nothing-requires Inv-loop μ-loop
+nothing-requires c κs = search needs
+
+refilled-requires : tie.Need-refilled-requires Inv-loop μ-loop
+refilled-requires c κs = search needs
 
 loop-holds : tie.Need-loop-holds Inv-loop μ-loop
 loop-holds c = search needs
 
-step-requires : tie.Need-step-requires Inv-loop μ-loop
-step-requires c κs = search needs
-
 sub-turns : tie.Need-sub-turns Inv-loop μ-loop
 sub-turns c = search needs
 
+sub-heard : tie.Need-sub-heard Inv-loop μ-loop
+sub-heard c = search needs
+
+part-heard-start : tie.Need-part-heard-start Inv-loop μ-loop
+part-heard-start c = search needs
+
+part-heard-end : tie.Need-part-heard-end Inv-loop μ-loop
+part-heard-end c = search needs
+
+heard-requires : tie.Need-heard-requires Inv-loop μ-loop
+heard-requires c κs = search needs
+
+sub-noted : tie.Need-sub-noted Inv-loop μ-loop
+sub-noted c = search needs
+
+part-noted-start : tie.Need-part-noted-start Inv-loop μ-loop
+part-noted-start c = search needs
+
+part-noted-end : tie.Need-part-noted-end Inv-loop μ-loop
+part-noted-end c = search needs
+
+noted-requires : tie.Need-noted-requires Inv-loop μ-loop
+noted-requires c κs = search needs
+
+obeyed-requires : tie.Need-obeyed-requires Inv-loop μ-loop
+obeyed-requires c κs = search needs
+
+next-requires : tie.Need-next-requires Inv-loop μ-loop
+next-requires c κs = search needs
+
 loop-less : tie.Need-loop-less Inv-loop μ-loop
-loop-less c = search needs
+loop-less c = omega (arith, c .before .before .before .before .before .before .before .before .before .before .before .before .before .before .before .before .before .before .before .before .before .before .before .before .before .before .before .before .before .before .before)
 
 loop-again : tie.Need-loop-again Inv-loop μ-loop
-loop-again c = search needs
+loop-again c =
+    let b = c .before .before .before .before .before .before .before .before .before .before .before .before .before .before .before .before .before .before .before .before in
+    omega (arith, c .before .before .before .before .before .before .before .before .before .before .before .before .before .before .before .before .before .before .before .before .before .before .before .before .before .before .before .before .before .before .before .before .before .loop .inv)
 
 flush-requires : tie.Need-flush-requires Inv-loop μ-loop
 flush-requires c κs = search needs
@@ -59,10 +94,20 @@ run-spec =
     (tie.spec
     Inv-loop
     μ-loop
-    new-requires
+    nothing-requires
+    refilled-requires
     loop-holds
-    step-requires
     sub-turns
+    sub-heard
+    part-heard-start
+    part-heard-end
+    heard-requires
+    sub-noted
+    part-noted-start
+    part-noted-end
+    noted-requires
+    obeyed-requires
+    next-requires
     loop-less
     loop-again
     flush-requires
