@@ -9,14 +9,15 @@ use super::orders::SHOW;
 use super::print::put_channels;
 use super::print::put_form;
 use super::print::put_refusal;
+use super::scan::Numbers;
 use super::scan::f32_of;
 use super::scan::f64_of;
 use super::scan::smaller;
+use player::BlockReport;
 use player::ControlMessage;
 use player::Handled;
 use player::Player;
 use player::Rendered;
-use rounding::to_pattern_f64;
 
 const OUTPUT: usize = 4_096;
 
@@ -28,20 +29,24 @@ pub struct Machine {
     pub at: usize,
 }
 
-// The player after a message, a clip or an `R` line; any other order leaves it alone.
-fn handled(player: Player, order: Order, words: &[u32]) -> Handled {
-    let v = order.v;
-    let x = f64_of(v[0]);
-    let due = order.due;
+fn message(due: usize, n: Numbers) -> ControlMessage {
+    let x = f64_of(n.a);
     match due {
-        0 => Player::new(f32_of(v[0])),
-        5 => player.handle_control_message(ControlMessage::Start(x, f64_of(v[1]), f64_of(v[2]))),
-        6 => player.handle_control_message(ControlMessage::Stop(x)),
-        7 => player.handle_control_message(ControlMessage::LoopStart(x)),
-        8 => player.handle_control_message(ControlMessage::LoopEnd(x)),
-        9 => player.handle_control_message(ControlMessage::Loop(false)),
-        10 => player.handle_control_message(ControlMessage::Loop(true)),
-        11 => player.set_buffer(v[0] as usize, v[1] as usize, f32_of(v[2]), words),
+        5 => ControlMessage::Start(x, f64_of(n.b), f64_of(n.c)),
+        6 => ControlMessage::Stop(x),
+        7 => ControlMessage::LoopStart(x),
+        8 => ControlMessage::LoopEnd(x),
+        9 => ControlMessage::Loop(false),
+        _ => ControlMessage::Loop(true),
+    }
+}
+
+// The player after a message, a clip or an `R` line; any other order leaves it alone.
+fn handled(player: Player, due: usize, n: Numbers, words: &[u32]) -> Handled {
+    match due {
+        0 => Player::new(f32_of(n.a)),
+        5..=10 => player.handle_control_message(message(due, n)),
+        11 => player.set_buffer(n.a, n.b, f32_of(n.c), words),
         _ => Handled::Done(player),
     }
 }
@@ -58,6 +63,11 @@ fn kept(due: usize, before: usize, words: &[u32], clip: &mut [u32]) -> usize {
     before
 }
 
+// Whether there is a player after an order.
+fn is_made(due: usize, before: bool, accepted: bool) -> bool {
+    if due == RATE { accepted } else { before }
+}
+
 // Messages, clips and `R` lines.
 pub fn told(
     m: Machine,
@@ -68,111 +78,120 @@ pub fn told(
     clip: &mut [u32],
 ) -> Machine {
     let player = m.player;
-    let n = smaller(order.wanted, words.len());
-    let w = &words[..n];
-    match handled(player, order, w) {
+    let n = order.n;
+    match handled(player, order.due, n, words) {
         Handled::Done(next) => Machine {
             player: next,
-            made: m.made || order.due == RATE,
-            clip: kept(order.due, m.clip, w, clip),
+            made: is_made(order.due, m.made, true),
+            clip: kept(order.due, m.clip, words, clip),
             at,
         },
         Handled::Refused(number) => Machine {
             player,
-            made: order.due != RATE,
+            made: is_made(order.due, m.made, false),
             clip: m.clip,
             at: put_refusal(text, at, number),
         },
     }
 }
 
-fn bit(on: bool) -> u64 {
+fn bit(on: bool) -> usize {
     if on { 1 } else { 0 }
 }
 
-// Renders a block into `out`, and prints it.
-fn rendered(m: Machine, v: [u64; 8], text: &mut [u8], samples: &[u32], out: &mut [u32]) -> Machine {
-    let player = m.player;
-    match player.process(out, samples, f64_of(v[0]), f32_of(v[1]), f64_of(v[2])) {
-        Rendered::Refused(number) => Machine {
-            player,
-            made: true,
-            clip: m.clip,
-            at: put_refusal(text, m.at, number),
-        },
+fn pattern(x: f64) -> usize {
+    rounding::to_pattern_f64(x) as usize
+}
+
+fn put_report(text: &mut [u8], at: usize, report: BlockReport, out: &[u32]) -> usize {
+    let values = [
+        bit(report.keep_alive),
+        bit(report.ended),
+        report.channels,
+        pattern(report.position.0),
+    ];
+    let after = put_form(text, at, b"B d d d f\n", &values);
+    put_channels(text, after, report.channels, 128, out)
+}
+
+// The player that a block left, and the block printed.
+fn reported(m: Machine, answer: Rendered, text: &mut [u8], out: &[u32]) -> Machine {
+    let mut next = m;
+    match answer {
+        Rendered::Refused(number) => {
+            next.at = put_refusal(text, m.at, number);
+            next
+        }
         Rendered::Block(report) => {
-            let next = report.player;
-            let position = to_pattern_f64(report.position.0);
-            let channels = report.channels;
-            let values = [
-                bit(report.keep_alive),
-                bit(report.ended),
-                channels as u64,
-                position,
-            ];
-            let a = put_form(text, m.at, b"B d d d f\n", &values);
-            Machine {
-                player: next,
-                made: true,
-                clip: m.clip,
-                at: put_channels(text, a, channels, 128, out),
-            }
+            let player = report.player;
+            next.player = player;
+            next.at = put_report(text, m.at, report, out);
+            next
         }
     }
 }
 
-// The lengths of the output and of the samples that are lent, where the line names them.
+// Renders a block into `out`.
+fn rendered(m: Machine, n: Numbers, text: &mut [u8], samples: &[u32], out: &mut [u32]) -> Machine {
+    let player = m.player;
+    let answer = player.process(out, samples, f64_of(n.a), f32_of(n.b), f64_of(n.c));
+    reported(m, answer, text, out)
+}
+
+// The length of the output that is lent, and below of the samples, where the line names them.
 fn output_length(order: Order) -> usize {
-    let v = order.v;
     if order.due == BLOCK {
         OUTPUT
     } else {
-        v[3] as usize
+        order.n.d
     }
 }
 
 fn samples_length(order: Order, clip: usize) -> usize {
-    let v = order.v;
     if order.due == BLOCK_SAMPLES {
-        v[4] as usize
+        order.n.e
     } else {
         clip
     }
 }
 
+fn is_block(due: usize) -> bool {
+    match due {
+        2..=4 => true,
+        _ => false,
+    }
+}
+
 // `B` lines.
 pub fn block(m: Machine, order: Order, text: &mut [u8], clip: &[u32], out: &mut [u32]) -> Machine {
-    if order.due < BLOCK {
+    if !is_block(order.due) {
         return m;
     }
-    if order.due > BLOCK_SAMPLES {
-        return m;
-    }
-    let n = smaller(output_length(order), out.len());
+    let n = order.n;
+    let j = smaller(output_length(order), out.len());
     let k = smaller(samples_length(order, m.clip), clip.len());
-    let v = order.v;
-    rendered(m, v, text, &clip[..k], &mut out[..n])
+    rendered(m, n, text, &clip[..k], &mut out[..j])
 }
 
 // The player's numbers, as `Z` prints them.
-fn state(p: Player) -> [u64; 16] {
+fn state(p: Player) -> [usize; 16] {
     [
-        to_pattern_f64(p.start_time.0),
-        to_pattern_f64(p.stop_time.0),
-        to_pattern_f64(p.offset.0),
-        to_pattern_f64(p.duration.0),
+        pattern(p.start_time.0),
+        pattern(p.stop_time.0),
+        pattern(p.offset.0),
+        pattern(p.duration.0),
         bit(p.loop_state.is_looping),
-        to_pattern_f64(p.loop_state.start.0),
-        to_pattern_f64(p.loop_state.end.0),
-        to_pattern_f64(p.render_state.buffer_time.0),
+        pattern(p.loop_state.start.0),
+        pattern(p.loop_state.end.0),
+        pattern(p.render_state.buffer_time.0),
         bit(p.render_state.started),
         bit(p.render_state.entered_loop),
-        to_pattern_f64(p.render_state.buffer_time_elapsed.0),
+        pattern(p.render_state.buffer_time_elapsed.0),
         bit(p.render_state.is_aligned),
         bit(p.render_state.ended),
         bit(p.has_start),
         bit(p.has_buffer),
-        to_pattern_f64(p.block_time.0),
+        pattern(p.block_time.0),
     ]
 }
 

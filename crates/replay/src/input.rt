@@ -104,21 +104,35 @@ fn noted(text: &mut [u8], start: usize, order: Order, line: &[u8]) -> usize {
     }
 }
 
-// Obeys the order that is due. What it prints and does goes by its kind: one of these calls does
-// more than hand on `at` or the machine.
+// Obeys the order that is due: what each of these calls does goes by its kind.
 fn obeyed(
     m: Machine,
+    start: usize,
     order: Order,
     text: &mut [u8],
     clip: &mut [u32],
     words: &[u32],
     first: &mut [u32],
-    rest: &mut [u32],
 ) -> Machine {
-    let a = called(text, m.at, order, words, first, rest);
-    let b = shown(text, a, order.due, m.player);
-    let next = told(m, b, order, text, words, clip);
+    let at = called(text, start, order, words, first);
+    let after = shown(text, at, order.due, m.player);
+    let next = told(m, after, order, text, words, clip);
     block(next, order, text, clip, first)
+}
+
+// Obeys an order with its words, after what its line prints.
+fn obey(
+    m: Machine,
+    line: &[u8],
+    order: Order,
+    text: &mut [u8],
+    clip: &mut [u32],
+    words: &[u32],
+    first: &mut [u32],
+) -> Machine {
+    let at = noted(text, m.at, order, line);
+    let n = smaller(order.wanted, words.len());
+    obeyed(m, at, order, text, clip, &words[..n], first)
 }
 
 // All the input. Nothing says that it ends, so the loop counts its turns down.
@@ -129,7 +143,6 @@ pub fn run(
     clip: &mut [u32],
     words: &mut [u32],
     first: &mut [u32],
-    rest: &mut [u32],
 ) {
     let mut m = Machine {
         player,
@@ -145,8 +158,7 @@ pub fn run(
         let from = r.from;
         let end = r.end;
         order = heard(order, &piece[from..end], m.made, words);
-        m.at = noted(text, m.at, order, &piece[from..end]);
-        m = obeyed(m, order, text, clip, words, first, rest);
+        m = obey(m, &piece[from..end], order, text, clip, words, first);
         r = next(r, piece);
     }
     flush(text, m.at);

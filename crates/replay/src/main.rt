@@ -9,25 +9,15 @@ mod orders;
 mod print;
 mod scan;
 
-ghost use mathlib.Core.Path.{_≡_};
-ghost use lib.ListN.{length};
 use player::Handled;
 use player::Player;
 
-// Room for a clip, a call's words or a result.
-fn room() -> [u32; 262144]
-    ensures { λ r. ⌜ 262144 ≡ length r ⌝ }
-{
-    [0; 262144]
-}
-
 fn run(player: Player) {
-    let mut piece = io::large_buffer();
-    let mut text = io::large_buffer();
-    let mut clip = room();
-    let mut words = room();
-    let mut first = room();
-    let mut rest = room();
+    let mut piece = [0; 65536];
+    let mut text = [0; 65536];
+    let mut clip = [0; 262144];
+    let mut words = [0; 262144];
+    let mut first = [0; 262144];
     input::run(
         player,
         &mut piece,
@@ -35,7 +25,6 @@ fn run(player: Player) {
         &mut clip,
         &mut words,
         &mut first,
-        &mut rest,
     );
 }
 

@@ -1,7 +1,9 @@
 // A line of input as an order: what it asks for, its numbers, and the words that it waits for.
 ghost use Prim.Native.Nat.{_+_, _*_, _<_, _≤_};
 ghost use lib.ListN.{length};
+use super::scan::Numbers;
 use super::scan::bits_of;
+use super::scan::numbers_of;
 use super::scan::read;
 use super::scan::smaller;
 use super::scan::value;
@@ -55,7 +57,7 @@ pub const WAITING: usize = 20;
 // The room for a copy's destination; the protocol allows 16,777,216.
 const LEN_MAX: usize = 262_144;
 
-const OUTPUT_MAX: u64 = 65_536;
+const OUTPUT_MAX: usize = 65_536;
 
 // The size of a shape outside the limits.
 const NO_SIZE: usize = 2_000_000_000;
@@ -68,61 +70,59 @@ pub struct Order {
     pub wanted: usize,
     pub got: usize,
     pub dropped: bool,
-    pub v: [u64; 8],
+    pub n: Numbers,
 }
 
 // The words of a shape.
-pub fn size(channels: u64, frames: u64) -> usize
+pub fn size(channels: usize, frames: usize) -> usize
     ensures { λ r. ⌜ r ≤ 2000000000 ⌝ }
 {
-    let c = channels as usize;
-    let n = frames as usize;
-    if c < 1 {
+    if channels < 1 {
         return NO_SIZE;
     }
-    if c > buffer::MAX_CHANNELS {
+    if channels > buffer::MAX_CHANNELS {
         return NO_SIZE;
     }
-    if n > buffer::MAX_FRAMES {
+    if frames > buffer::MAX_FRAMES {
         return NO_SIZE;
     }
-    c * n
+    channels * frames
 }
 
 // The words that an order waits for.
-fn wanted(kind: usize, v: [u64; 8]) -> usize {
+fn wanted(kind: usize, n: Numbers) -> usize {
     match kind {
-        11 | 12 | 15 | 16 => size(v[0], v[1]),
-        13 => size(v[0], v[1]) + smaller(v[4] as usize, LEN_MAX),
-        14 => size(v[0], v[1]) + size(v[3], v[4]),
+        11 | 12 | 15 | 16 => size(n.a, n.b),
+        13 => size(n.a, n.b) + smaller(n.e, LEN_MAX),
+        14 => size(n.a, n.b) + size(n.d, n.e),
         _ => 0,
     }
 }
 
 // Whether a length that the line names is above its bound.
-fn is_too_long(kind: usize, v: [u64; 8], room: usize) -> bool {
+fn is_too_long(kind: usize, n: Numbers, room: usize) -> bool {
     match kind {
-        3 => v[3] > OUTPUT_MAX,
-        4 => v[3] > OUTPUT_MAX || v[4] as usize > room,
-        12 | 13 => v[4] as usize > LEN_MAX,
+        3 => n.d > OUTPUT_MAX,
+        4 => n.d > OUTPUT_MAX || n.e > room,
+        12 | 13 => n.e > LEN_MAX,
         _ => false,
     }
 }
 
 // The kind that is obeyed: one that needs a player is unknown without it, and so is what has no
 // room.
-fn admitted(kind: usize, v: [u64; 8], made: bool, room: usize) -> usize {
+fn admitted(kind: usize, n: Numbers, made: bool, room: usize) -> usize {
     if kind >= SHOW && kind <= CLIP && !made {
         return UNKNOWN;
     }
-    if is_too_long(kind, v, room) {
+    if is_too_long(kind, n, room) {
         return UNKNOWN;
     }
-    let n = wanted(kind, v);
-    if n >= NO_SIZE {
+    let words = wanted(kind, n);
+    if words >= NO_SIZE {
         return BAD_SHAPE;
     }
-    if n > room { UNKNOWN } else { kind }
+    if words > room { UNKNOWN } else { kind }
 }
 
 // Where the line from `at` on ends, at most at `to`.
@@ -151,7 +151,7 @@ pub fn next_line(from: usize, end: usize, len: usize) -> usize
 // A line's kind and numbers.
 struct Known {
     kind: usize,
-    v: [u64; 8],
+    v: [usize; 8],
 }
 
 // The first of the forms, one to a line, that the line has.
@@ -198,19 +198,20 @@ fn due(kind: usize, wanted: usize, got: usize) -> usize {
 fn begun(line: &[u8], made: bool, room: usize, dropped: bool) -> Order {
     let known = order_of(line);
     let v = known.v;
+    let n = numbers_of(v);
     let kind = if is_comment(line) {
         COMMENT
     } else {
-        admitted(known.kind, v, made, room)
+        admitted(known.kind, n, made, room)
     };
-    let wanted = wanted(kind, v);
+    let wanted = wanted(kind, n);
     Order {
         kind,
         due: due(kind, wanted, 0),
         wanted,
         got: 0,
         dropped,
-        v,
+        n,
     }
 }
 
@@ -264,6 +265,6 @@ pub fn nothing() -> Order {
         wanted: 0,
         got: 0,
         dropped: false,
-        v: [0; 8],
+        n: numbers_of([0; 8]),
     }
 }

@@ -43,13 +43,13 @@ pub fn put_line(text: &mut [u8], at: usize, line: &[u8]) -> usize {
 }
 
 // Hex digit `place` of a number, counted from the lowest.
-fn hex_digit(value: u64, place: u64) -> u8 {
+fn hex_digit(value: usize, place: usize) -> u8 {
     let d = ((value >> (place % 16 * 4)) % 16) as u8;
     if d < 10 { b'0' + d } else { b'A' + (d - 10) }
 }
 
 // The lowest `digits` hex digits of a number.
-fn put_hex(text: &mut [u8], start: usize, value: u64, digits: u64) -> usize {
+fn put_hex(text: &mut [u8], start: usize, value: usize, digits: usize) -> usize {
     let mut at = start;
     let mut left = digits;
     while left > 0 {
@@ -59,14 +59,14 @@ fn put_hex(text: &mut [u8], start: usize, value: u64, digits: u64) -> usize {
     at
 }
 
-fn put_decimal(text: &mut [u8], at: usize, value: u64) -> usize {
+fn put_decimal(text: &mut [u8], at: usize, value: usize) -> usize {
     let mut digits = [0u8; 20];
-    let count = io::decimal(value, &mut digits);
+    let count = io::decimal(value as u64, &mut digits);
     put_all(text, at, &digits[..count])
 }
 
 // The byte or the number that `kind` stands for.
-fn put_field(text: &mut [u8], at: usize, kind: u8, value: u64) -> usize {
+fn put_field(text: &mut [u8], at: usize, kind: u8, value: usize) -> usize {
     match kind {
         b'd' => put_decimal(text, at, value),
         b'w' => put_hex(text, at, value, 8),
@@ -76,12 +76,12 @@ fn put_field(text: &mut [u8], at: usize, kind: u8, value: u64) -> usize {
 }
 
 // The value at `k`, and 0 past the end.
-fn value_at(values: &[u64], k: usize) -> u64 {
+fn value_at(values: &[usize], k: usize) -> usize {
     if k < values.len() { values[k] } else { 0 }
 }
 
 // The values by a form.
-pub fn put_form(text: &mut [u8], start: usize, form: &[u8], values: &[u64]) -> usize {
+pub fn put_form(text: &mut [u8], start: usize, form: &[u8], values: &[usize]) -> usize {
     let mut at = start;
     let mut k = 0;
     let mut i = 0;
@@ -93,9 +93,15 @@ pub fn put_form(text: &mut [u8], start: usize, form: &[u8], values: &[u64]) -> u
     at
 }
 
+// A letter and a number.
+pub fn put_count(text: &mut [u8], at: usize, letter: u8, count: usize) -> usize {
+    let after = put(text, at, letter);
+    put_form(text, after, b" d\n", &[count])
+}
+
 // A refusal.
 pub fn put_refusal(text: &mut [u8], at: usize, number: u32) -> usize {
-    put_form(text, at, b"X d\n", &[number as u64])
+    put_count(text, at, b'X', number as usize)
 }
 
 // Where the run of equal words from `first` on ends.
@@ -114,15 +120,15 @@ fn run_end(words: &[u32], first: usize) -> usize
     i
 }
 
-fn put_run(text: &mut [u8], at: usize, channel: usize, first: usize, end: usize, bits: u32) -> usize
-    requires { ⌜ first ≤ end ⌝ }
-{
-    let values = [
-        channel as u64,
-        first as u64,
-        (end - first) as u64,
-        bits as u64,
-    ];
+fn put_run(
+    text: &mut [u8],
+    at: usize,
+    channel: usize,
+    first: usize,
+    count: usize,
+    bits: u32,
+) -> usize {
+    let values = [channel, first, count, bits as usize];
     put_form(text, at, b"d d d w\n", &values)
 }
 
@@ -132,7 +138,7 @@ fn put_runs(text: &mut [u8], start: usize, channel: usize, words: &[u32]) -> usi
     let mut first = 0;
     while first < words.len() {
         let end = run_end(words, first);
-        at = put_run(text, at, channel, first, end, words[first]);
+        at = put_run(text, at, channel, first, end - first, words[first]);
         first = end;
     }
     at
@@ -158,11 +164,16 @@ pub fn put_channels(
     at
 }
 
+// The line of a buffer's shape.
+fn put_shape(text: &mut [u8], at: usize, letter: u8, shape: Shape) -> usize {
+    let after = put(text, at, letter);
+    let rate = rounding::to_pattern(shape.rate) as usize;
+    let values = [shape.channels, shape.frames, rate];
+    put_form(text, after, b" d d w\n", &values)
+}
+
 // A letter, the shape, and the runs of the buffer's channels.
 pub fn put_buffer(text: &mut [u8], at: usize, letter: u8, shape: Shape, words: &[u32]) -> usize {
-    let a = put(text, at, letter);
-    let rate = rounding::to_pattern(shape.rate) as u64;
-    let values = [shape.channels as u64, shape.frames as u64, rate];
-    let b = put_form(text, a, b" d d w\n", &values);
-    put_channels(text, b, shape.channels, shape.frames, words)
+    let after = put_shape(text, at, letter, shape);
+    put_channels(text, after, shape.channels, shape.frames, words)
 }

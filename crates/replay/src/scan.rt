@@ -3,10 +3,20 @@
 ghost use Prim.Native.Nat.{_+_, _<_, _≤_};
 ghost use lib.ListN.{length};
 
-// The numbers of a line, one after another; not good where the line has another form.
+// The numbers of a line, in their order.
 pub struct Numbers {
+    pub a: usize,
+    pub b: usize,
+    pub c: usize,
+    pub d: usize,
+    pub e: usize,
+    pub f: usize,
+}
+
+// The same as they are read; not good where the line has another form.
+pub struct Reads {
     pub good: bool,
-    pub v: [u64; 8],
+    pub v: [usize; 8],
 }
 
 pub fn smaller(a: usize, b: usize) -> usize
@@ -26,18 +36,18 @@ pub fn numbers_in(kind: u8) -> usize
 }
 
 // The value of an upper-case hex digit, or 16.
-fn digit(c: u8) -> u64
+fn digit(c: u8) -> usize
     ensures { λ r. ⌜ r ≤ 16 ⌝ }
 {
     match c {
-        48..=57 => (c - 48) as u64,
-        65..=70 => (c - 55) as u64,
+        48..=57 => (c - 48) as usize,
+        65..=70 => (c - 55) as usize,
         _ => 16,
     }
 }
 
 // The end of the digits from `at` on.
-fn digits_end(line: &[u8], at: usize, base: u64) -> usize
+fn digits_end(line: &[u8], at: usize, base: usize) -> usize
     requires { ⌜ at ≤ length (now line) ⌝ }
     ensures { λ r. ⌜ (at ≤ r) × (r ≤ length (now (line .entry))) ⌝ }
 {
@@ -86,7 +96,7 @@ fn byte_end(line: &[u8], at: usize, byte: u8) -> usize
 }
 
 // The number with one more digit.
-fn appended(value: u64, d: u64, kind: u8) -> u64
+fn appended(value: usize, d: usize, kind: u8) -> usize
     requires { ⌜ d ≤ 16 ⌝ }
 {
     if kind != b'd' {
@@ -99,8 +109,8 @@ fn appended(value: u64, d: u64, kind: u8) -> u64
 }
 
 // The number that the digits are.
-pub fn value(digits: &[u8], kind: u8) -> u64 {
-    let mut value: u64 = 0;
+pub fn value(digits: &[u8], kind: u8) -> usize {
+    let mut value = 0;
     let mut i = 0;
     while i < digits.len() {
         value = appended(value, digit(digits[i]), kind);
@@ -110,7 +120,7 @@ pub fn value(digits: &[u8], kind: u8) -> u64 {
 }
 
 // The line's numbers by a form. A byte that stands for itself leaves its place to the next number.
-pub fn read(line: &[u8], form: &[u8]) -> Numbers {
+pub fn read(line: &[u8], form: &[u8]) -> Reads {
     let mut v = [0; 8];
     let mut k = 0;
     let mut at = 0;
@@ -119,27 +129,38 @@ pub fn read(line: &[u8], form: &[u8]) -> Numbers {
         let kind = form[i];
         let end = word_end(line, at, kind);
         if end == at {
-            return Numbers { good: false, v };
+            return Reads { good: false, v };
         }
         v[k] = value(&line[at..end], kind);
         k = smaller(k + numbers_in(kind), 7);
         at = end;
         i += 1;
     }
-    Numbers {
+    Reads {
         good: at == line.len(),
         v,
     }
 }
 
-pub fn f64_of(value: u64) -> f64 {
-    rounding::from_pattern_f64(value)
+pub fn numbers_of(v: [usize; 8]) -> Numbers {
+    Numbers {
+        a: v[0],
+        b: v[1],
+        c: v[2],
+        d: v[3],
+        e: v[4],
+        f: v[5],
+    }
 }
 
-pub fn bits_of(value: u64) -> u32 {
+pub fn f64_of(value: usize) -> f64 {
+    rounding::from_pattern_f64(value as u64)
+}
+
+pub fn bits_of(value: usize) -> u32 {
     (value % 0x1_0000_0000) as u32
 }
 
-pub fn f32_of(value: u64) -> f32 {
+pub fn f32_of(value: usize) -> f32 {
     rounding::from_pattern(bits_of(value))
 }

@@ -7,11 +7,11 @@ use borrow.Author.Needs.{needs}
 use Rattle.replay.proofs.control.block.Statement.{statement}
 use Rattle.replay.proofs.control.block.Tie as tie
 
+is-block-requires : tie.Need-is-block-requires
+is-block-requires c κs = search needs
+
 returns : tie.Need-returns
 returns c = search needs
-
-returns-2 : tie.Need-returns-2
-returns-2 c = search needs
 
 output-length-requires : tie.Need-output-length-requires
 output-length-requires c κs = search needs
@@ -43,15 +43,15 @@ same-length c = search needs
 same-length-2 : tie.Need-same-length-2
 same-length-2 c = search needs
 
-returns-3 : tie.Need-returns-3
-returns-3 c = search needs
+returns-2 : tie.Need-returns-2
+returns-2 c = search needs
 
 pub block-spec : {M : Type 1} → statement M
 block-spec =
     tie.close
     (tie.spec
+    is-block-requires
     returns
-    returns-2
     output-length-requires
     smaller-requires
     samples-length-requires
@@ -62,4 +62,4 @@ block-spec =
     rendered-requires
     same-length
     same-length-2
-    returns-3)
+    returns-2)

@@ -8,11 +8,11 @@ use Rattle.replay.proofs.input.run.Statement.{statement}
 use Rattle.replay.proofs.input.run.Tie as tie
 
 abbrev Inv-loop : tie.InvT-loop
-Inv-loop piece₀ text₀ clip₀ words₀ first₀ rest₀ m₀ order₀ r₀ turns₀ piece text clip words first rest m order r turns =
-    (r .from ≤ r .end) × (r .end ≤ length piece₀) × (length piece ≡ length piece₀) × (length text ≡ length text₀) × (length clip ≡ length clip₀) × (length words ≡ length words₀) × (length first ≡ length first₀) × (length rest ≡ length rest₀)
+Inv-loop piece₀ text₀ clip₀ words₀ first₀ m₀ order₀ r₀ turns₀ piece text clip words first m order r turns =
+    (r .from ≤ r .end) × (r .end ≤ length piece₀) × (length piece ≡ length piece₀) × (length text ≡ length text₀) × (length clip ≡ length clip₀) × (length words ≡ length words₀) × (length first ≡ length first₀)
 
 abbrev μ-loop : tie.MeasureT-loop
-μ-loop piece₀ text₀ clip₀ words₀ first₀ rest₀ m₀ order₀ r₀ turns₀ piece text clip words first rest m order r turns = turns
+μ-loop piece₀ text₀ clip₀ words₀ first₀ m₀ order₀ r₀ turns₀ piece text clip words first m order r turns = turns
 
 nothing-requires : tie.Need-nothing-requires Inv-loop μ-loop
 nothing-requires c κs = search needs
@@ -38,31 +38,26 @@ part-heard-end c = search needs
 heard-requires : tie.Need-heard-requires Inv-loop μ-loop
 heard-requires c κs = search needs
 
-sub-noted : tie.Need-sub-noted Inv-loop μ-loop
-sub-noted c = search needs
+sub-obey : tie.Need-sub-obey Inv-loop μ-loop
+sub-obey c = search needs
 
-part-noted-start : tie.Need-part-noted-start Inv-loop μ-loop
-part-noted-start c = search needs
+part-obey-start : tie.Need-part-obey-start Inv-loop μ-loop
+part-obey-start c = search needs
 
-part-noted-end : tie.Need-part-noted-end Inv-loop μ-loop
-part-noted-end c = search needs
+part-obey-end : tie.Need-part-obey-end Inv-loop μ-loop
+part-obey-end c = search needs
 
-noted-requires : tie.Need-noted-requires Inv-loop μ-loop
-noted-requires c κs = search needs
-
-obeyed-requires : tie.Need-obeyed-requires Inv-loop μ-loop
-obeyed-requires c κs = search needs
+obey-requires : tie.Need-obey-requires Inv-loop μ-loop
+obey-requires c κs = search needs
 
 next-requires : tie.Need-next-requires Inv-loop μ-loop
 next-requires c κs = search needs
 
 loop-less : tie.Need-loop-less Inv-loop μ-loop
-loop-less c = omega (arith, c .before .before .before .before .before .before .before .before .before .before .before .before .before .before .before .before .before .before .before .before .before .before .before .before .before .before .before .before .before .before .before)
+loop-less c = omega (arith, c .before .before .before .before .before .before .before .before .before .before .before .before .before .before .before .before .before .before .before .before .before .before .before .before)
 
 loop-again : tie.Need-loop-again Inv-loop μ-loop
-loop-again c =
-    let b = c .before .before .before .before .before .before .before .before .before .before .before .before .before .before .before .before .before .before .before .before in
-    omega (arith, c .before .before .before .before .before .before .before .before .before .before .before .before .before .before .before .before .before .before .before .before .before .before .before .before .before .before .before .before .before .before .before .before .before .loop .inv)
+loop-again c = omega (arith, c .before .before .before .before .before .before .before .before .before .before .before .before .before .before .before .before .before .before .before .before .before .before .before .before .before .before .loop .inv)
 
 flush-requires : tie.Need-flush-requires Inv-loop μ-loop
 flush-requires c κs = search needs
@@ -82,9 +77,6 @@ same-length-4 c = search needs
 same-length-5 : tie.Need-same-length-5 Inv-loop μ-loop
 same-length-5 c = search needs
 
-same-length-6 : tie.Need-same-length-6 Inv-loop μ-loop
-same-length-6 c = search needs
-
 returns : tie.Need-returns Inv-loop μ-loop
 returns c = search needs
 
@@ -102,11 +94,10 @@ run-spec =
     part-heard-start
     part-heard-end
     heard-requires
-    sub-noted
-    part-noted-start
-    part-noted-end
-    noted-requires
-    obeyed-requires
+    sub-obey
+    part-obey-start
+    part-obey-end
+    obey-requires
     next-requires
     loop-less
     loop-again
@@ -116,5 +107,4 @@ run-spec =
     same-length-3
     same-length-4
     same-length-5
-    same-length-6
     returns)

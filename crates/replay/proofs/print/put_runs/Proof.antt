@@ -18,6 +18,9 @@ loop-holds c = search needs
 run-end-requires : tie.Need-run-end-requires Inv-loop μ-loop
 run-end-requires c κs = search needs
 
+sub-put-run : tie.Need-sub-put-run Inv-loop μ-loop
+sub-put-run c = search needs
+
 mul-put-run : tie.Need-mul-put-run Inv-loop μ-loop
 mul-put-run c = search needs
 
@@ -47,6 +50,7 @@ put-runs-spec =
     μ-loop
     loop-holds
     run-end-requires
+    sub-put-run
     mul-put-run
     shared-slice-read-put-run
     put-run-requires
