@@ -1,4 +1,6 @@
 // The calls of `buffer`, made once their words are there.
+ghost use mathlib.Core.Path.{_≡_};
+ghost use lib.ListN.{length};
 use super::orders::COPY_FROM;
 use super::orders::EXTEND;
 use super::orders::Order;
@@ -18,6 +20,13 @@ use buffer::Shape;
 const UNTOUCHED: u32 = 0xdead_beef;
 
 const COPY_RATE: f32 = 48_000.0;
+
+// Room for a clip, a call's words or a result.
+pub fn room() -> [u32; 262144]
+    ensures { λ r. ⌜ 262144 ≡ length r ⌝ }
+{
+    [0; 262144]
+}
 
 fn shape_of(channels: usize, frames: usize, rate: usize) -> Shape {
     Shape {
@@ -176,7 +185,7 @@ fn parted(
 
 // A split, the rest of which has its own room.
 fn split(text: &mut [u8], at: usize, n: Numbers, words: &[u32], first: &mut [u32]) -> usize {
-    let mut rest = [0; 262144];
+    let mut rest = room();
     parted(text, at, n, words, first, &mut rest)
 }
 

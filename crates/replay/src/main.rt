@@ -9,15 +9,16 @@ mod orders;
 mod print;
 mod scan;
 
+use calls::room;
 use player::Handled;
 use player::Player;
 
 fn run(player: Player) {
-    let mut piece = [0; 65536];
-    let mut text = [0; 65536];
-    let mut clip = [0; 262144];
-    let mut words = [0; 262144];
-    let mut first = [0; 262144];
+    let mut piece = io::large_buffer();
+    let mut text = io::large_buffer();
+    let mut clip = room();
+    let mut words = room();
+    let mut first = room();
     input::run(
         player,
         &mut piece,
