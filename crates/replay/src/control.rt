@@ -116,17 +116,24 @@ fn put_report(text: &mut [u8], at: usize, report: BlockReport, out: &[u32]) -> u
 
 // The player that a block left, and the block printed.
 fn reported(m: Machine, answer: Rendered, text: &mut [u8], out: &[u32]) -> Machine {
-    let mut next = m;
     match answer {
         Rendered::Refused(number) => {
-            next.at = put_refusal(text, m.at, number);
-            next
+            let player = m.player;
+            Machine {
+                player,
+                made: true,
+                clip: m.clip,
+                at: put_refusal(text, m.at, number),
+            }
         }
         Rendered::Block(report) => {
             let player = report.player;
-            next.player = player;
-            next.at = put_report(text, m.at, report, out);
-            next
+            Machine {
+                player,
+                made: true,
+                clip: m.clip,
+                at: put_report(text, m.at, report, out),
+            }
         }
     }
 }
@@ -155,22 +162,18 @@ fn samples_length(order: Order, clip: usize) -> usize {
     }
 }
 
-fn is_block(due: usize) -> bool {
-    match due {
-        2..=4 => true,
-        _ => false,
-    }
-}
-
 // `B` lines.
 pub fn block(m: Machine, order: Order, text: &mut [u8], clip: &[u32], out: &mut [u32]) -> Machine {
-    if !is_block(order.due) {
-        return m;
+    let due = order.due;
+    match due {
+        2..=4 => {
+            let n = order.n;
+            let j = smaller(output_length(order), out.len());
+            let k = smaller(samples_length(order, m.clip), clip.len());
+            rendered(m, n, text, &clip[..k], &mut out[..j])
+        }
+        _ => m,
     }
-    let n = order.n;
-    let j = smaller(output_length(order), out.len());
-    let k = smaller(samples_length(order, m.clip), clip.len());
-    rendered(m, n, text, &clip[..k], &mut out[..j])
 }
 
 // The player's numbers, as `Z` prints them.

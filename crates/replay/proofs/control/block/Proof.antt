@@ -7,12 +7,6 @@ use borrow.Author.Needs.{needs}
 use Rattle.replay.proofs.control.block.Statement.{statement}
 use Rattle.replay.proofs.control.block.Tie as tie
 
-is-block-requires : tie.Need-is-block-requires
-is-block-requires c κs = search needs
-
-returns : tie.Need-returns
-returns c = search needs
-
 output-length-requires : tie.Need-output-length-requires
 output-length-requires c κs = search needs
 
@@ -43,15 +37,19 @@ same-length c = search needs
 same-length-2 : tie.Need-same-length-2
 same-length-2 c = search needs
 
+returns : tie.Need-returns
+returns c = search needs
+
 returns-2 : tie.Need-returns-2
 returns-2 c = search needs
+
+returns-3 : tie.Need-returns-3
+returns-3 c = search needs
 
 pub block-spec : {M : Type 1} → statement M
 block-spec =
     tie.close
     (tie.spec
-    is-block-requires
-    returns
     output-length-requires
     smaller-requires
     samples-length-requires
@@ -62,4 +60,6 @@ block-spec =
     rendered-requires
     same-length
     same-length-2
-    returns-2)
+    returns
+    returns-2
+    returns-3)
