@@ -1,9 +1,10 @@
 // A line of input as an order: what it asks for, its numbers, and the words that it waits for.
 ghost use Prim.Native.Nat.{_+_, _*_, _<_, _≤_};
 ghost use lib.ListN.{length};
+use super::scan::Known;
 use super::scan::Numbers;
 use super::scan::bits_of;
-use super::scan::numbers_of;
+use super::scan::no_numbers;
 use super::scan::read;
 use super::scan::smaller;
 use super::scan::value;
@@ -148,29 +149,22 @@ pub fn next_line(from: usize, end: usize, len: usize) -> usize
     if end < len { end + 1 } else { end }
 }
 
-// A line's kind and numbers.
-struct Known {
-    kind: usize,
-    v: [usize; 8],
-}
-
 // The first of the forms, one to a line, that the line has.
 fn matched(line: &[u8], forms: &[u8]) -> Known {
     let mut kind = 0;
     let mut from = 0;
     while from < forms.len() {
         let end = line_end(forms, from, forms.len());
-        let numbers = read(line, &forms[from..end]);
-        if numbers.good {
-            let v = numbers.v;
-            return Known { kind, v };
+        let known = read(line, &forms[from..end], kind, UNKNOWN);
+        if known.kind != UNKNOWN {
+            return known;
         }
         from = next_line(from, end, forms.len());
         kind += 1;
     }
     Known {
         kind: UNKNOWN,
-        v: [0; 8],
+        n: no_numbers(),
     }
 }
 
@@ -197,8 +191,7 @@ fn due(kind: usize, wanted: usize, got: usize) -> usize {
 // A new order.
 fn begun(line: &[u8], made: bool, room: usize, dropped: bool) -> Order {
     let known = order_of(line);
-    let v = known.v;
-    let n = numbers_of(v);
+    let n = known.n;
     let kind = if is_comment(line) {
         COMMENT
     } else {
@@ -241,14 +234,11 @@ fn stored(line: &[u8], room: &mut [u32]) -> usize {
 
 // The order after a line: the waiting one with more words, or a new one.
 pub fn heard(order: Order, line: &[u8], made: bool, words: &mut [u32]) -> Order {
-    if order.got >= order.wanted {
-        return begun(line, made, words.len(), false);
-    }
     let to = smaller(order.wanted, words.len());
     let from = smaller(order.got, to);
     let count = stored(line, &mut words[from..to]);
     if count == 0 {
-        return begun(line, made, words.len(), true);
+        return begun(line, made, words.len(), order.got < order.wanted);
     }
     let mut next = order;
     next.got = from + smaller(count, to - from);
@@ -265,6 +255,6 @@ pub fn nothing() -> Order {
         wanted: 0,
         got: 0,
         dropped: false,
-        n: numbers_of([0; 8]),
+        n: no_numbers(),
     }
 }

@@ -13,10 +13,10 @@ pub struct Numbers {
     pub f: usize,
 }
 
-// The same as they are read; not good where the line has another form.
-pub struct Reads {
-    pub good: bool,
-    pub v: [usize; 8],
+// A line's kind and its numbers.
+pub struct Known {
+    pub kind: usize,
+    pub n: Numbers,
 }
 
 pub fn smaller(a: usize, b: usize) -> usize
@@ -119,37 +119,51 @@ pub fn value(digits: &[u8], kind: u8) -> usize {
     value
 }
 
-// The line's numbers by a form. A byte that stands for itself leaves its place to the next number.
-pub fn read(line: &[u8], form: &[u8]) -> Reads {
-    let mut v = [0; 8];
+// The numbers with `x` as the one at `k`.
+fn with_number(n: Numbers, k: usize, x: usize) -> Numbers {
+    let mut m = n;
+    match k {
+        0 => m.a = x,
+        1 => m.b = x,
+        2 => m.c = x,
+        3 => m.d = x,
+        4 => m.e = x,
+        _ => m.f = x,
+    }
+    m
+}
+
+pub fn no_numbers() -> Numbers {
+    Numbers {
+        a: 0,
+        b: 0,
+        c: 0,
+        d: 0,
+        e: 0,
+        f: 0,
+    }
+}
+
+// The line's numbers by a form, and its kind: `kind` where it has the form, and `other` where not.
+// A byte that stands for itself leaves its place to the next number.
+pub fn read(line: &[u8], form: &[u8], kind: usize, other: usize) -> Known {
+    let mut n = no_numbers();
     let mut k = 0;
     let mut at = 0;
     let mut i = 0;
     while i < form.len() {
-        let kind = form[i];
-        let end = word_end(line, at, kind);
+        let end = word_end(line, at, form[i]);
         if end == at {
-            return Reads { good: false, v };
+            return Known { kind: other, n };
         }
-        v[k] = value(&line[at..end], kind);
-        k = smaller(k + numbers_in(kind), 7);
+        n = with_number(n, k, value(&line[at..end], form[i]));
+        k += numbers_in(form[i]);
         at = end;
         i += 1;
     }
-    Reads {
-        good: at == line.len(),
-        v,
-    }
-}
-
-pub fn numbers_of(v: [usize; 8]) -> Numbers {
-    Numbers {
-        a: v[0],
-        b: v[1],
-        c: v[2],
-        d: v[3],
-        e: v[4],
-        f: v[5],
+    Known {
+        kind: if at == line.len() { kind } else { other },
+        n,
     }
 }
 
