@@ -1,20 +1,17 @@
-// Calls with words: their first line, and the call once its words are there.
-ghost use Prim.Native.Nat.{_+_, _*_, _<_, _≤_};
+// The calls of `buffer`, made once their words are there.
+ghost use mathlib.Core.Path.{_≡_};
 ghost use lib.ListN.{length};
-use super::machine::Call;
-use super::machine::Held;
-use super::machine::Machine;
+use super::orders::COPY_FROM;
+use super::orders::EXTEND;
+use super::orders::Order;
+use super::orders::size;
 use super::print::put_buffer;
-use super::print::put_copied;
-use super::print::put_runs;
-use super::scan::Read;
-use super::scan::count_of;
-use super::scan::decimal;
-use super::scan::ends;
+use super::print::put_channels;
+use super::print::put_count;
+use super::print::put_refusal;
+use super::scan::Numbers;
 use super::scan::f32_of;
-use super::scan::hex;
 use super::scan::smaller;
-use super::scan::start;
 use buffer::Copied;
 use buffer::Shape;
 use reshape::Made;
@@ -24,176 +21,22 @@ const UNTOUCHED: u32 = 0xdead_beef;
 
 const COPY_RATE: f32 = 48_000.0;
 
-// The room for a copy's destination; the protocol allows 16,777,216.
-const LEN_MAX: usize = 262_144;
-
-// The words of a shape; 0 where it is outside the limits, which `is_valid` tells.
-fn size(shape: Shape) -> usize
-    ensures { λ r. ⌜ r ≤ 536870912 ⌝ }
+// Room for a clip, a call's words or a result.
+pub fn room() -> [u32; 262144]
+    ensures { λ r. ⌜ 262144 ≡ length r ⌝ }
 {
-    if shape.channels > buffer::MAX_CHANNELS {
-        return 0;
-    }
-    if shape.frames > buffer::MAX_FRAMES {
-        return 0;
-    }
-    shape.channels * shape.frames
+    [0; 262144]
 }
 
-fn is_valid(shape: Shape) -> bool {
-    buffer::is_valid_shape(shape.channels, shape.frames, size(shape))
-}
-
-// A call that was read, if its line is good: how many words it wants; whether its shapes are within
-// the limits.
-struct Begun {
-    call: Call,
-    wanted: usize,
-    good: bool,
-    valid: bool,
-}
-
-// A shape and the place after it.
-struct ShapeRead {
-    shape: Shape,
-    read: Read,
-}
-
-fn read_shape(line: &[u8], before: Read) -> ShapeRead {
-    let channels = decimal(line, before);
-    let frames = decimal(line, channels);
-    let read = hex(line, frames, 8);
-    let shape = Shape {
-        channels: count_of(channels),
-        frames: count_of(frames),
-        rate: f32_of(read),
-    };
-    ShapeRead { shape, read }
-}
-
-fn clip_line(line: &[u8]) -> Begun {
-    let s = read_shape(line, start(1));
-    let shape = s.shape;
-    let read = s.read;
-    Begun {
-        call: Call::Clip(shape),
-        wanted: size(shape),
-        good: ends(line, read),
-        valid: is_valid(shape),
+fn shape_of(channels: usize, frames: usize, rate: usize) -> Shape {
+    Shape {
+        channels,
+        frames,
+        rate: f32_of(rate),
     }
 }
 
-// `KF`, `KT channels frames channel offset len`.
-fn copy_line(line: &[u8], into: bool) -> Begun {
-    let channels = decimal(line, start(2));
-    let frames = decimal(line, channels);
-    let number = decimal(line, frames);
-    let offset = decimal(line, number);
-    let len = decimal(line, offset);
-    let shape = Shape {
-        channels: count_of(channels),
-        frames: count_of(frames),
-        rate: COPY_RATE,
-    };
-    let n = smaller(count_of(len), LEN_MAX);
-    Begun {
-        call: if into {
-            Call::CopyTo(shape, count_of(number), count_of(offset), n)
-        } else {
-            Call::CopyFrom(shape, count_of(number), count_of(offset), n)
-        },
-        wanted: if into { size(shape) + n } else { size(shape) },
-        good: ends(line, len) && count_of(len) <= LEN_MAX,
-        valid: is_valid(shape),
-    }
-}
-
-fn extend_line(line: &[u8]) -> Begun {
-    let a = read_shape(line, start(1));
-    let after = a.read;
-    let b = read_shape(line, after);
-    let one = a.shape;
-    let other = b.shape;
-    let read = b.read;
-    Begun {
-        call: Call::Extend(one, other),
-        wanted: size(one) + size(other),
-        good: ends(line, read),
-        valid: is_valid(one) && is_valid(other),
-    }
-}
-
-fn split_line(line: &[u8]) -> Begun {
-    let s = read_shape(line, start(1));
-    let shape = s.shape;
-    let before = s.read;
-    let point = decimal(line, before);
-    Begun {
-        call: Call::Split(shape, count_of(point)),
-        wanted: size(shape),
-        good: ends(line, point),
-        valid: is_valid(shape),
-    }
-}
-
-fn convert_line(line: &[u8]) -> Begun {
-    let s = read_shape(line, start(1));
-    let shape = s.shape;
-    let before = s.read;
-    let rate = hex(line, before, 8);
-    Begun {
-        call: Call::Convert(shape, f32_of(rate)),
-        wanted: size(shape),
-        good: ends(line, rate),
-        valid: is_valid(shape),
-    }
-}
-
-fn first_line(line: &[u8], letter: u8, second: u8) -> Begun {
-    match letter {
-        b'C' => clip_line(line),
-        b'K' => copy_line(line, second == b'T'),
-        b'J' => extend_line(line),
-        b'V' => split_line(line),
-        _ => convert_line(line),
-    }
-}
-
-fn lacks_player(m: Machine, letter: u8) -> bool {
-    let held = m.held;
-    match held {
-        Held::Nothing => letter == b'C',
-        Held::One(_) => false,
-    }
-}
-
-// The first line of a call. What has no room prints `X 0`.
-pub fn begin(
-    m: Machine,
-    line: &[u8],
-    text: &mut [u8],
-    letter: u8,
-    second: u8,
-    room: usize,
-) -> Machine {
-    if lacks_player(m, letter) {
-        return m.refused(text, 0);
-    }
-    let b = first_line(line, letter, second);
-    if !b.good {
-        return m.refused(text, 0);
-    }
-    if !b.valid {
-        return m.refused(text, buffer::refusals::SHAPE);
-    }
-    if b.wanted > room {
-        return m.refused(text, 0);
-    }
-    let call = b.call;
-    m.with_call(call, b.wanted)
-}
-
-fn copy_words(from: &[u32], to: &mut [u32]) {
+pub fn copy_words(from: &[u32], to: &mut [u32]) {
     let n = smaller(from.len(), to.len());
     let mut i = 0;
     while i < n {
@@ -210,189 +53,181 @@ fn fill(to: &mut [u32], word: u32) {
     }
 }
 
-pub fn give_clip(
-    m: Machine,
-    shape: Shape,
-    words: &[u32],
-    text: &mut [u8],
-    clip: &mut [u32],
-) -> Machine {
-    let held = m.held;
-    match held {
-        Held::Nothing => m.refused(text, 0),
-        Held::One(player) => {
-            let answer = player.set_buffer(shape.channels, shape.frames, shape.rate, words);
-            let had = player.has_buffer;
-            let old = m.clip;
-            if had {
-                return m.handled(text, answer, old);
-            }
-            copy_words(words, clip);
-            m.handled(text, answer, words.len())
-        }
-    }
-}
-
-// A copy out into `len` words.
-fn copy_from(
-    m: Machine,
-    shape: Shape,
-    words: &[u32],
-    to: &mut [u32],
-    text: &mut [u8],
-    number: usize,
-    offset: usize,
-) -> Machine {
+// A copy out into `to`.
+fn copy_from(n: Numbers, words: &[u32], to: &mut [u32]) -> Copied {
     fill(to, UNTOUCHED);
-    let answer = buffer::copy_from_channel_with_offset(
-        shape.channels,
-        shape.frames,
-        words,
-        to,
-        number,
-        offset,
-    );
-    match answer {
-        Copied::Refused(refusal) => m.refused(text, refusal),
-        Copied::Frames(count) => {
-            let at = put_copied(text, m.at, count);
-            let after = put_runs(text, at, 0, to);
-            m.with_at(after)
-        }
-    }
+    buffer::copy_from_channel_with_offset(n.a, n.b, words, to, n.c, n.d)
 }
 
 // A copy in: `words` are the buffer's, then the source's.
-fn copy_to(
-    m: Machine,
-    shape: Shape,
-    words: &[u32],
-    samples: &mut [u32],
-    text: &mut [u8],
-    number: usize,
-    offset: usize,
-) -> Machine {
-    let n = smaller(samples.len(), words.len());
+fn copy_to(n: Numbers, words: &[u32], samples: &mut [u32]) -> Copied {
+    let len = smaller(samples.len(), words.len());
     copy_words(words, samples);
-    let answer = buffer::copy_to_channel_with_offset(
-        shape.channels,
-        shape.frames,
-        samples,
-        &words[n..],
-        number,
-        offset,
-    );
+    buffer::copy_to_channel_with_offset(n.a, n.b, samples, &words[len..], n.c, n.d)
+}
+
+// What a copy left: the destination's words, or the buffer.
+fn put_copy(text: &mut [u8], at: usize, due: usize, n: Numbers, words: &[u32]) -> usize {
+    if due == COPY_FROM {
+        return put_channels(text, at, 1, words.len(), words);
+    }
+    let shape = Shape {
+        channels: n.a,
+        frames: n.b,
+        rate: COPY_RATE,
+    };
+    put_buffer(text, at, b'K', shape, words)
+}
+
+// A copy's answer.
+fn put_copied(
+    text: &mut [u8],
+    at: usize,
+    answer: Copied,
+    due: usize,
+    n: Numbers,
+    words: &[u32],
+) -> usize {
     match answer {
-        Copied::Refused(refusal) => m.refused(text, refusal),
+        Copied::Refused(refusal) => put_refusal(text, at, refusal),
         Copied::Frames(count) => {
-            let at = put_copied(text, m.at, count);
-            let after = put_buffer(text, at, b'K', shape, samples);
-            m.with_at(after)
+            let after = put_count(text, at, b'K', count);
+            put_copy(text, after, due, n, words)
         }
+    }
+}
+
+fn copied(
+    text: &mut [u8],
+    at: usize,
+    due: usize,
+    n: Numbers,
+    words: &[u32],
+    to: &mut [u32],
+) -> usize {
+    if due == COPY_FROM {
+        let answer = copy_from(n, words, to);
+        return put_copied(text, at, answer, due, n, to);
+    }
+    let answer = copy_to(n, words, to);
+    put_copied(text, at, answer, due, n, to)
+}
+
+fn extended(n: Numbers, words: &[u32], out: &mut [u32]) -> Made {
+    let a = shape_of(n.a, n.b, n.c);
+    let b = shape_of(n.d, n.e, n.f);
+    let len = smaller(size(n.a, n.b), words.len());
+    reshape::extend(a, &words[..len], b, &words[len..], out)
+}
+
+fn converted(n: Numbers, words: &[u32], out: &mut [u32]) -> Made {
+    reshape::convert(shape_of(n.a, n.b, n.c), words, f32_of(n.d), out)
+}
+
+// The refusal that is printed: `X 0` for a result without room.
+fn printed(refusal: u32) -> u32 {
+    if refusal == buffer::refusals::LENGTH {
+        0
+    } else {
+        refusal
     }
 }
 
 // A buffer that was made, in `out`, or the refusal.
-fn made(m: Machine, answer: Made, letter: u8, text: &mut [u8], out: &[u32]) -> Machine {
+fn put_made(text: &mut [u8], at: usize, answer: Made, letter: u8, out: &[u32]) -> usize {
     match answer {
-        Made::Refused(refusal) => m.refused(text, refusal),
-        Made::Buffer(shape) => {
-            let at = put_buffer(text, m.at, letter, shape, out);
-            m.with_at(at)
-        }
+        Made::Refused(refusal) => put_refusal(text, at, printed(refusal)),
+        Made::Buffer(shape) => put_buffer(text, at, letter, shape, out),
     }
 }
 
-fn extended(
-    m: Machine,
-    a: Shape,
-    b: Shape,
-    words: &[u32],
+fn made(
     text: &mut [u8],
+    at: usize,
+    due: usize,
+    n: Numbers,
+    words: &[u32],
     out: &mut [u32],
-) -> Machine {
-    let n = smaller(size(a), words.len());
-    match reshape::extended_shape(a, n, b, words.len() - n) {
-        Made::Refused(refusal) => m.refused(text, refusal),
-        Made::Buffer(_) => {
-            let k = smaller(words.len(), out.len());
-            let answer = reshape::extend(a, &words[..n], b, &words[n..], &mut out[..k]);
-            made(m, answer, b'J', text, &out[..k])
+) -> usize {
+    if due == EXTEND {
+        let answer = extended(n, words, out);
+        return put_made(text, at, answer, b'J', out);
+    }
+    let answer = converted(n, words, out);
+    put_made(text, at, answer, b'Q', out)
+}
+
+// Two buffers that were made, or the refusal.
+fn put_parted(text: &mut [u8], at: usize, answer: Parted, first: &[u32], rest: &[u32]) -> usize {
+    match answer {
+        Parted::Refused(refusal) => put_refusal(text, at, refusal),
+        Parted::Buffers(a, b) => {
+            let after = put_buffer(text, at, b'V', a, first);
+            put_buffer(text, after, b'V', b, rest)
         }
     }
 }
 
 fn parted(
-    m: Machine,
-    shape: Shape,
-    point: usize,
-    words: &[u32],
     text: &mut [u8],
+    at: usize,
+    n: Numbers,
+    words: &[u32],
     first: &mut [u32],
     rest: &mut [u32],
-) -> Machine {
-    match reshape::split_shapes(shape, words.len(), point) {
-        Parted::Refused(refusal) => m.refused(text, refusal),
-        Parted::Buffers(a, b) => {
-            let j = smaller(size(a), first.len());
-            let k = smaller(size(b), rest.len());
-            match reshape::split(shape, words, point, &mut first[..j], &mut rest[..k]) {
-                Parted::Refused(refusal) => m.refused(text, refusal),
-                Parted::Buffers(c, d) => {
-                    let at = put_buffer(text, m.at, b'V', c, &first[..j]);
-                    let after = put_buffer(text, at, b'V', d, &rest[..k]);
-                    m.with_at(after)
-                }
-            }
-        }
+) -> usize {
+    let len = words.len() - smaller(first.len(), words.len());
+    let k = smaller(len, rest.len());
+    let shape = shape_of(n.a, n.b, n.c);
+    let answer = reshape::split(shape, words, n.d, first, &mut rest[..k]);
+    put_parted(text, at, answer, first, rest)
+}
+
+// A split, the rest of which has its own room.
+fn split(text: &mut [u8], at: usize, n: Numbers, words: &[u32], first: &mut [u32]) -> usize {
+    let mut rest = room();
+    parted(text, at, n, words, first, &mut rest)
+}
+
+// The words of a conversion's result; 0 where it is refused.
+fn converted_size(n: Numbers, len: usize) -> usize {
+    match reshape::converted_shape(shape_of(n.a, n.b, n.c), len, f32_of(n.d)) {
+        Made::Refused(_) => 0,
+        Made::Buffer(s) => size(s.channels, s.frames),
     }
 }
 
-fn converted(
-    m: Machine,
-    shape: Shape,
-    rate: f32,
-    words: &[u32],
-    text: &mut [u8],
-    out: &mut [u32],
-) -> Machine {
-    match reshape::converted_shape(shape, words.len(), rate) {
-        Made::Refused(refusal) => m.refused(text, refusal),
-        Made::Buffer(result) => {
-            let k = size(result);
-            if k > out.len() {
-                return m.refused(text, 0);
-            }
-            let answer = reshape::convert(shape, words, rate, &mut out[..k]);
-            made(m, answer, b'Q', text, &out[..k])
-        }
+// The length of the result, or of a split's first part.
+fn first_size(due: usize, n: Numbers, wanted: usize) -> usize {
+    match due {
+        12 => n.e,
+        13 => size(n.a, n.b),
+        14 => wanted,
+        15 => size(n.a, n.d),
+        16 => converted_size(n, wanted),
+        _ => 0,
     }
 }
 
-// Makes the waiting call, whose words are all there.
-pub fn complete(
-    m: Machine,
-    words: &[u32],
+// Makes the call that is due, if one is.
+fn answered(
     text: &mut [u8],
-    clip: &mut [u32],
+    at: usize,
+    due: usize,
+    n: Numbers,
+    words: &[u32],
     first: &mut [u32],
-    rest: &mut [u32],
-) -> Machine {
-    let call = m.call;
-    let done = m.without_call();
-    match call {
-        Call::Nothing => done,
-        Call::Clip(shape) => give_clip(done, shape, words, text, clip),
-        Call::CopyFrom(shape, number, offset, len) => {
-            let n = smaller(len, first.len());
-            copy_from(done, shape, words, &mut first[..n], text, number, offset)
-        }
-        Call::CopyTo(shape, number, offset, _) => {
-            let n = smaller(size(shape), first.len());
-            copy_to(done, shape, words, &mut first[..n], text, number, offset)
-        }
-        Call::Extend(a, b) => extended(done, a, b, words, text, first),
-        Call::Split(shape, point) => parted(done, shape, point, words, text, first, rest),
-        Call::Convert(shape, rate) => converted(done, shape, rate, words, text, first),
+) -> usize {
+    match due {
+        12 | 13 => copied(text, at, due, n, words, first),
+        14 | 16 => made(text, at, due, n, words, first),
+        15 => split(text, at, n, words, first),
+        _ => at,
     }
+}
+
+pub fn called(text: &mut [u8], at: usize, order: Order, words: &[u32], first: &mut [u32]) -> usize {
+    let n = order.n;
+    let j = smaller(first_size(order.due, n, order.wanted), first.len());
+    answered(text, at, order.due, n, words, &mut first[..j])
 }

@@ -1,136 +1,211 @@
-// `R`, the messages and `Z`.
-use super::machine::Held;
-use super::machine::Machine;
-use super::print::put;
-use super::print::put_all;
-use super::print::put_end;
-use super::print::put_f64;
-use super::print::put_flag;
-use super::scan::byte;
-use super::scan::ends;
+// The lines that the player obeys.
+use super::calls::copy_words;
+use super::orders::BLOCK;
+use super::orders::BLOCK_SAMPLES;
+use super::orders::CLIP;
+use super::orders::Order;
+use super::orders::RATE;
+use super::orders::SHOW;
+use super::print::put_channels;
+use super::print::put_form;
+use super::print::put_refusal;
+use super::scan::Numbers;
 use super::scan::f32_of;
 use super::scan::f64_of;
-use super::scan::hex;
-use super::scan::start;
+use super::scan::smaller;
+use player::BlockReport;
 use player::ControlMessage;
+use player::Handled;
 use player::Player;
+use player::Rendered;
 
-// `R rate`: a fresh player, or none.
-pub fn fresh(m: Machine, line: &[u8], text: &mut [u8]) -> Machine {
-    let rate = hex(line, start(1), 8);
-    if !ends(line, rate) {
-        return m.refused(text, 0);
-    }
-    let answer = Player::new(f32_of(rate));
-    m.without_player().handled(text, answer, 0)
+const OUTPUT: usize = 4_096;
+
+// The player, whether an `R` line made it, and its clip's length; how far the text is filled.
+pub struct Machine {
+    pub player: Player,
+    pub made: bool,
+    pub clip: usize,
+    pub at: usize,
 }
 
-fn sent(m: Machine, text: &mut [u8], message: ControlMessage) -> Machine {
-    let held = m.held;
-    match held {
-        Held::Nothing => m.refused(text, 0),
-        Held::One(player) => {
-            let answer = player.handle_control_message(message);
-            let clip = m.clip;
-            m.handled(text, answer, clip)
+fn message(due: usize, n: Numbers) -> ControlMessage {
+    let x = f64_of(n.a);
+    match due {
+        5 => ControlMessage::Start(x, f64_of(n.b), f64_of(n.c)),
+        6 => ControlMessage::Stop(x),
+        7 => ControlMessage::LoopStart(x),
+        8 => ControlMessage::LoopEnd(x),
+        9 => ControlMessage::Loop(false),
+        _ => ControlMessage::Loop(true),
+    }
+}
+
+// The player after a message, a clip or an `R` line; any other order leaves it alone.
+fn handled(player: Player, due: usize, n: Numbers, words: &[u32]) -> Handled {
+    match due {
+        0 => Player::new(f32_of(n.a)),
+        5..=10 => player.handle_control_message(message(due, n)),
+        11 => player.set_buffer(n.a, n.b, f32_of(n.c), words),
+        _ => Handled::Done(player),
+    }
+}
+
+// Keeps the words of a clip that was accepted, and answers the clip's length.
+fn kept(due: usize, before: usize, words: &[u32], clip: &mut [u32]) -> usize {
+    if due == RATE {
+        return 0;
+    }
+    if due == CLIP {
+        copy_words(words, clip);
+        return words.len();
+    }
+    before
+}
+
+// Whether there is a player after an order.
+fn is_made(due: usize, before: bool, accepted: bool) -> bool {
+    if due == RATE { accepted } else { before }
+}
+
+// Messages, clips and `R` lines.
+pub fn told(
+    m: Machine,
+    at: usize,
+    order: Order,
+    text: &mut [u8],
+    words: &[u32],
+    clip: &mut [u32],
+) -> Machine {
+    let player = m.player;
+    let n = order.n;
+    match handled(player, order.due, n, words) {
+        Handled::Done(next) => Machine {
+            player: next,
+            made: is_made(order.due, m.made, true),
+            clip: kept(order.due, m.clip, words, clip),
+            at,
+        },
+        Handled::Refused(number) => Machine {
+            player,
+            made: is_made(order.due, m.made, false),
+            clip: m.clip,
+            at: put_refusal(text, at, number),
+        },
+    }
+}
+
+fn bit(on: bool) -> usize {
+    if on { 1 } else { 0 }
+}
+
+fn pattern(x: f64) -> usize {
+    rounding::to_pattern_f64(x) as usize
+}
+
+fn put_report(text: &mut [u8], at: usize, report: BlockReport, out: &[u32]) -> usize {
+    let values = [
+        bit(report.keep_alive),
+        bit(report.ended),
+        report.channels,
+        pattern(report.position.0),
+    ];
+    let after = put_form(text, at, b"B d d d f\n", &values);
+    put_channels(text, after, report.channels, 128, out)
+}
+
+// The player that a block left, and the block printed.
+fn reported(m: Machine, answer: Rendered, text: &mut [u8], out: &[u32]) -> Machine {
+    match answer {
+        Rendered::Refused(number) => {
+            let player = m.player;
+            Machine {
+                player,
+                made: true,
+                clip: m.clip,
+                at: put_refusal(text, m.at, number),
+            }
+        }
+        Rendered::Block(report) => {
+            let player = report.player;
+            Machine {
+                player,
+                made: true,
+                clip: m.clip,
+                at: put_report(text, m.at, report, out),
+            }
         }
     }
 }
 
-// `S when offset duration`.
-fn start_line(m: Machine, line: &[u8], text: &mut [u8]) -> Machine {
-    let when = hex(line, start(1), 16);
-    let offset = hex(line, when, 16);
-    let duration = hex(line, offset, 16);
-    if ends(line, duration) {
-        return sent(
-            m,
-            text,
-            ControlMessage::Start(f64_of(when), f64_of(offset), f64_of(duration)),
-        );
-    }
-    m.refused(text, 0)
+// Renders a block into `out`.
+fn rendered(m: Machine, n: Numbers, text: &mut [u8], samples: &[u32], out: &mut [u32]) -> Machine {
+    let player = m.player;
+    let answer = player.process(out, samples, f64_of(n.a), f32_of(n.b), f64_of(n.c));
+    reported(m, answer, text, out)
 }
 
-// `L 0`, `L 1`.
-fn loop_line(m: Machine, line: &[u8], text: &mut [u8]) -> Machine {
-    if line.len() == 3 && byte(line, 1) == b' ' {
-        if byte(line, 2) == b'0' {
-            return sent(m, text, ControlMessage::Loop(false));
+// The length of the output that is lent, and below of the samples, where the line names them.
+fn output_length(order: Order) -> usize {
+    if order.due == BLOCK {
+        OUTPUT
+    } else {
+        order.n.d
+    }
+}
+
+fn samples_length(order: Order, clip: usize) -> usize {
+    if order.due == BLOCK_SAMPLES {
+        order.n.e
+    } else {
+        clip
+    }
+}
+
+// `B` lines.
+pub fn block(m: Machine, order: Order, text: &mut [u8], clip: &[u32], out: &mut [u32]) -> Machine {
+    let due = order.due;
+    match due {
+        2..=4 => {
+            let n = order.n;
+            let j = smaller(output_length(order), out.len());
+            let k = smaller(samples_length(order, m.clip), clip.len());
+            rendered(m, n, text, &clip[..k], &mut out[..j])
         }
-        if byte(line, 2) == b'1' {
-            return sent(m, text, ControlMessage::Loop(true));
-        }
-    }
-    m.refused(text, 0)
-}
-
-// A message line.
-pub fn message(m: Machine, line: &[u8], text: &mut [u8], letter: u8) -> Machine {
-    if letter == b'S' {
-        return start_line(m, line, text);
-    }
-    if letter == b'L' {
-        return loop_line(m, line, text);
-    }
-    let value = hex(line, start(1), 16);
-    if !ends(line, value) {
-        return m.refused(text, 0);
-    }
-    let x = f64_of(value);
-    match letter {
-        b'T' => sent(m, text, ControlMessage::Stop(x)),
-        b'P' => sent(m, text, ControlMessage::LoopStart(x)),
-        _ => sent(m, text, ControlMessage::LoopEnd(x)),
+        _ => m,
     }
 }
 
-// The times and the loop.
-fn put_settings(text: &mut [u8], at: usize, p: Player) -> usize {
-    let a = put_f64(text, at, p.start_time.0);
-    let b = put_f64(text, a, p.stop_time.0);
-    let c = put_f64(text, b, p.offset.0);
-    let d = put_f64(text, c, p.duration.0);
-    let e = put_flag(text, d, p.loop_state.is_looping);
-    let f = put_f64(text, e, p.loop_state.start.0);
-    put_f64(text, f, p.loop_state.end.0)
+// The player's numbers, as `Z` prints them.
+fn state(p: Player) -> [usize; 16] {
+    [
+        pattern(p.start_time.0),
+        pattern(p.stop_time.0),
+        pattern(p.offset.0),
+        pattern(p.duration.0),
+        bit(p.loop_state.is_looping),
+        pattern(p.loop_state.start.0),
+        pattern(p.loop_state.end.0),
+        pattern(p.render_state.buffer_time.0),
+        bit(p.render_state.started),
+        bit(p.render_state.entered_loop),
+        pattern(p.render_state.buffer_time_elapsed.0),
+        bit(p.render_state.is_aligned),
+        bit(p.render_state.ended),
+        bit(p.has_start),
+        bit(p.has_buffer),
+        pattern(p.block_time.0),
+    ]
 }
 
-// What the blocks moved on.
-fn put_state(text: &mut [u8], at: usize, p: Player) -> usize {
-    let a = put_f64(text, at, p.render_state.buffer_time.0);
-    let b = put_flag(text, a, p.render_state.started);
-    let c = put_flag(text, b, p.render_state.entered_loop);
-    let d = put_f64(text, c, p.render_state.buffer_time_elapsed.0);
-    let e = put_flag(text, d, p.render_state.is_aligned);
-    put_flag(text, e, p.render_state.ended)
-}
-
-// The marks and the last accepted block's time.
-fn put_marks(text: &mut [u8], at: usize, p: Player) -> usize {
-    let a = put_flag(text, at, p.has_start);
-    let b = put_flag(text, a, p.has_buffer);
-    if p.has_block {
-        return put_f64(text, b, p.block_time.0);
+// `Z` lines.
+pub fn shown(text: &mut [u8], at: usize, due: usize, player: Player) -> usize {
+    if due != SHOW {
+        return at;
     }
-    put_all(text, b, b" none")
-}
-
-// `Z`: the player.
-pub fn show(m: Machine, line: &[u8], text: &mut [u8]) -> Machine {
-    if line.len() != 1 {
-        return m.refused(text, 0);
+    let values = state(player);
+    if player.has_block {
+        return put_form(text, at, b"Z f f f f d f f f d d f d d d d f\n", &values);
     }
-    let held = m.held;
-    match held {
-        Held::Nothing => m.refused(text, 0),
-        Held::One(player) => {
-            let a = put(text, m.at, b'Z');
-            let b = put_settings(text, a, player);
-            let c = put_state(text, b, player);
-            let d = put_marks(text, c, player);
-            let e = put_end(text, d);
-            m.with_at(e)
-        }
-    }
+    put_form(text, at, b"Z f f f f d f f f d d f d d d d none\n", &values)
 }

@@ -1,191 +1,30 @@
 // Lines of standard input, obeyed one after another.
 ghost use Prim.Native.Nat.{_+_, _<_, _≤_};
 ghost use lib.ListN.{length};
-use super::blocks::block;
-use super::calls::begin;
-use super::calls::complete;
-use super::control::fresh;
-use super::control::message;
-use super::control::show;
-use super::machine::Machine;
+use super::calls::called;
+use super::control::Machine;
+use super::control::block;
+use super::control::shown;
+use super::control::told;
+use super::orders::Order;
+use super::orders::heard;
+use super::orders::line_end;
+use super::orders::nothing;
 use super::print::flush;
 use super::print::put_line;
-use super::scan::byte;
+use super::print::put_refusal;
 use super::scan::smaller;
-use super::words::stored;
 use libc::STDIN_FILENO;
+use player::Player;
 
-// The second byte of the first word: 0 where it has one, 1 where it has more than two.
-fn second_letter(line: &[u8]) -> u8 {
-    let b = byte(line, 1);
-    if b == b' ' || b == 0 {
-        return 0;
-    }
-    let c = byte(line, 2);
-    if c == b' ' || c == 0 { b } else { 1 }
-}
-
-fn is_copy(letter: u8, second: u8) -> bool {
-    letter == b'K' && (second == b'F' || second == b'T')
-}
-
-// A line where no call waits.
-fn command(
-    m: Machine,
-    line: &[u8],
-    text: &mut [u8],
-    clip: &[u32],
-    room: usize,
-    out: &mut [u32],
-) -> Machine {
-    let letter = byte(line, 0);
-    let second = second_letter(line);
-    if letter == b'#' {
-        let at = put_line(text, m.at, line);
-        return m.with_at(at);
-    }
-    if is_copy(letter, second) {
-        return begin(m, line, text, letter, second, room);
-    }
-    if second != 0 {
-        return m.refused(text, 0);
-    }
-    match letter {
-        b'R' => fresh(m, line, text),
-        b'C' | b'J' | b'V' | b'Q' => begin(m, line, text, letter, second, room),
-        b'B' => block(m, line, text, clip, out),
-        b'Z' => show(m, line, text),
-        b'S' | b'T' | b'P' | b'E' | b'L' => message(m, line, text, letter),
-        _ => m.refused(text, 0),
-    }
-}
-
-// The words that are missing, if the line has them; else the call is given up.
-fn taken(m: Machine, line: &[u8], text: &mut [u8], words: &mut [u32]) -> Machine {
-    let to = smaller(m.wanted, words.len());
-    let from = smaller(m.got, to);
-    let count = stored(line, &mut words[from..to]);
-    if count == 0 {
-        return m.without_call().refused(text, 0);
-    }
-    let mut next = m;
-    next.got = from + smaller(count, to - from);
-    next
-}
-
-// Makes the call whose words are all there, if one is.
-fn finished(
-    m: Machine,
-    text: &mut [u8],
-    clip: &mut [u32],
-    words: &[u32],
-    first: &mut [u32],
-    rest: &mut [u32],
-) -> Machine {
-    if m.got < m.wanted {
-        return m;
-    }
-    let n = smaller(m.wanted, words.len());
-    complete(m, &words[..n], text, clip, first, rest)
-}
-
-// A line where no call waits, and the call of no words that it may be.
-fn commanded(
-    m: Machine,
-    line: &[u8],
-    text: &mut [u8],
-    clip: &mut [u32],
-    words: &[u32],
-    first: &mut [u32],
-    rest: &mut [u32],
-) -> Machine {
-    let next = command(m, line, text, clip, words.len(), first);
-    finished(next, text, clip, words, first, rest)
-}
-
-// A line where a call waits.
-fn supplied(
-    m: Machine,
-    line: &[u8],
-    text: &mut [u8],
-    clip: &mut [u32],
-    words: &mut [u32],
-    first: &mut [u32],
-    rest: &mut [u32],
-) -> Machine {
-    let next = taken(m, line, text, words);
-    if next.wanted > 0 {
-        return finished(next, text, clip, words, first, rest);
-    }
-    commanded(next, line, text, clip, words, first, rest)
-}
-
-fn obey(
-    m: Machine,
-    line: &[u8],
-    text: &mut [u8],
-    clip: &mut [u32],
-    words: &mut [u32],
-    first: &mut [u32],
-    rest: &mut [u32],
-) -> Machine {
-    if m.got < m.wanted {
-        return supplied(m, line, text, clip, words, first, rest);
-    }
-    commanded(m, line, text, clip, words, first, rest)
-}
-
-// Where the line from `at` on ends.
-fn line_end(piece: &[u8], at: usize) -> usize
-    requires { ⌜ at ≤ length (now piece) ⌝ }
-    ensures { λ r. ⌜ (at ≤ r) × (r ≤ length (now (piece .entry))) ⌝ }
-{
-    let mut i = at;
-    while i < piece.len() {
-        if piece[i] == b'\n' {
-            return i;
-        }
-        i += 1;
-    }
-    i
-}
-
-// How much of the piece was obeyed, and the machine after it.
-struct Obeyed {
-    machine: Machine,
+// A line stands at from..end of a piece of input that is filled up to `to`; `last` where the input
+// ends there; `done` where no line is left.
+struct Reading {
     from: usize,
-}
-
-// Where the line after the one from..end starts.
-fn next_line(from: usize, end: usize, len: usize) -> usize
-    requires { ⌜ (from < len) × (from ≤ end) × (end ≤ len) ⌝ }
-    ensures { λ r. ⌜ (from < r) × (r ≤ len) ⌝ }
-{
-    if end < len { end + 1 } else { end }
-}
-
-// Obeys the lines that end within the piece, and at the end of input the last one too.
-fn lines(
-    m: Machine,
+    end: usize,
+    to: usize,
     last: bool,
-    piece: &[u8],
-    text: &mut [u8],
-    clip: &mut [u32],
-    words: &mut [u32],
-    first: &mut [u32],
-    rest: &mut [u32],
-) -> Obeyed {
-    let mut machine = m;
-    let mut from = 0;
-    while from < piece.len() {
-        let end = line_end(piece, from);
-        if end == piece.len() && !last {
-            break;
-        }
-        machine = obey(machine, &piece[from..end], text, clip, words, first, rest);
-        from = next_line(from, end, piece.len());
-    }
-    Obeyed { machine, from }
+    done: bool,
 }
 
 // Moves the bytes from..to to the front; answers how many there are.
@@ -201,13 +40,6 @@ fn moved(piece: &mut [u8], from: usize, to: usize) -> usize {
     n
 }
 
-// What is kept between the pieces of the input: `begun` bytes of a line stand at the front.
-struct Reading {
-    machine: Machine,
-    begun: usize,
-    done: bool,
-}
-
 // Where the next piece is read to: behind the line that is begun, unless that fills all.
 fn behind(begun: usize, len: usize) -> usize
     ensures { λ r. ⌜ r ≤ len ⌝ }
@@ -215,50 +47,119 @@ fn behind(begun: usize, len: usize) -> usize
     if begun < len { begun } else { 0 }
 }
 
-// Reads a piece of input behind the line that is begun, and obeys its lines.
-fn step(
-    r: Reading,
-    piece: &mut [u8],
+// Reads a piece of input behind the line that is begun at from..to. Its first line is next.
+fn refilled(piece: &mut [u8], from: usize, to: usize) -> Reading
+    ensures { λ r. ⌜ (r .from ≤ r .end) × (r .end ≤ length (now (piece .entry))) ⌝ }
+{
+    let begun = moved(piece, from, to);
+    let kept = behind(begun, piece.len());
+    let got = io::read_full(STDIN_FILENO, &mut piece[kept..]);
+    let filled = smaller(kept + smaller(got, piece.len() - kept), piece.len());
+    Reading {
+        from: 0,
+        end: line_end(piece, 0, filled),
+        to: filled,
+        last: filled < piece.len(),
+        done: filled == 0,
+    }
+}
+
+// The line after this one.
+fn next(r: Reading, piece: &mut [u8]) -> Reading
+    ensures { λ n. ⌜ (n .from ≤ n .end) × (n .end ≤ length (now (piece .entry))) ⌝ }
+{
+    let to = smaller(r.to, piece.len());
+    let from = smaller(smaller(r.end, to) + 1, to);
+    let end = line_end(piece, from, to);
+    if end < to || r.last {
+        return Reading {
+            from,
+            end,
+            to,
+            last: r.last,
+            done: from == to,
+        };
+    }
+    refilled(piece, from, to)
+}
+
+// `X 0` for a call that is given up.
+fn put_dropped(text: &mut [u8], at: usize, dropped: bool) -> usize {
+    if dropped {
+        put_refusal(text, at, 0)
+    } else {
+        at
+    }
+}
+
+// What is printed of the line itself.
+fn noted(text: &mut [u8], start: usize, order: Order, line: &[u8]) -> usize {
+    let at = put_dropped(text, start, order.dropped);
+    let due = order.due;
+    match due {
+        17 => put_refusal(text, at, 0),
+        18 => put_refusal(text, at, buffer::refusals::SHAPE),
+        19 => put_line(text, at, line),
+        _ => at,
+    }
+}
+
+// Obeys the order that is due: what each of these calls does goes by its kind.
+fn obeyed(
+    m: Machine,
+    start: usize,
+    order: Order,
     text: &mut [u8],
     clip: &mut [u32],
-    words: &mut [u32],
+    words: &[u32],
     first: &mut [u32],
-    rest: &mut [u32],
-) -> Reading {
-    let m = r.machine;
-    let begun = behind(r.begun, piece.len());
-    let got = io::read_full(STDIN_FILENO, &mut piece[begun..]);
-    let to = smaller(begun + smaller(got, piece.len() - begun), piece.len());
-    let last = to < piece.len();
-    let obeyed = lines(m, last, &piece[..to], text, clip, words, first, rest);
-    let machine = obeyed.machine;
-    let kept = moved(piece, obeyed.from, to);
-    Reading {
-        machine,
-        begun: kept,
-        done: last,
-    }
+) -> Machine {
+    let at = called(text, start, order, words, first);
+    let after = shown(text, at, order.due, m.player);
+    let next = told(m, after, order, text, words, clip);
+    block(next, order, text, clip, first)
+}
+
+// Obeys an order with its words, after what its line prints.
+fn obey(
+    m: Machine,
+    line: &[u8],
+    order: Order,
+    text: &mut [u8],
+    clip: &mut [u32],
+    words: &[u32],
+    first: &mut [u32],
+) -> Machine {
+    let at = noted(text, m.at, order, line);
+    let n = smaller(order.wanted, words.len());
+    obeyed(m, at, order, text, clip, &words[..n], first)
 }
 
 // All the input. Nothing says that it ends, so the loop counts its turns down.
 pub fn run(
+    player: Player,
     piece: &mut [u8],
     text: &mut [u8],
     clip: &mut [u32],
     words: &mut [u32],
     first: &mut [u32],
-    rest: &mut [u32],
 ) {
-    let mut r = Reading {
-        machine: Machine::new(),
-        begun: 0,
-        done: false,
+    let mut m = Machine {
+        player,
+        made: false,
+        clip: 0,
+        at: 0,
     };
+    let mut order = nothing();
+    let mut r = refilled(piece, 0, 0);
     let mut turns = u64::MAX;
     while turns > 0 && !r.done {
-        r = step(r, piece, text, clip, words, first, rest);
         turns -= 1;
+        let from = r.from;
+        let end = r.end;
+        order = heard(order, &piece[from..end], m.made, words);
+        m = obey(m, &piece[from..end], order, text, clip, words, first);
+        r = next(r, piece);
     }
-    let m = r.machine;
     flush(text, m.at);
 }

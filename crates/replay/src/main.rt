@@ -1,39 +1,37 @@
 // The subject of the differential runs: obeys the lines of oracle/PROTOCOL.md from standard input,
-// over the calls of player and buffer, and prints the answers. All memory is lent by `main`: a clip,
-// the words of a call and a result have room for 262,144 words each, and what does not fit prints
-// `X 0` (oracle/README.md).
-mod blocks;
+// over the calls of player and buffer, and prints the answers. All memory is lent by `run`, but for
+// the rest of a split: a clip, the words of a call and a result have room for 262,144 words each,
+// and what does not fit prints `X 0` (oracle/README.md).
 mod calls;
 mod control;
 mod input;
-mod machine;
+mod orders;
 mod print;
 mod scan;
-mod words;
 
-ghost use mathlib.Core.Path.{_≡_};
-ghost use lib.ListN.{length};
+use calls::room;
+use player::Handled;
+use player::Player;
 
-// Room for a clip, a call's words or a result.
-fn room() -> [u32; 262144]
-    ensures { λ r. ⌜ 262144 ≡ length r ⌝ }
-{
-    [0; 262144]
-}
-
-fn main() {
+fn run(player: Player) {
     let mut piece = io::large_buffer();
     let mut text = io::large_buffer();
     let mut clip = room();
     let mut words = room();
     let mut first = room();
-    let mut rest = room();
     input::run(
+        player,
         &mut piece,
         &mut text,
         &mut clip,
         &mut words,
         &mut first,
-        &mut rest,
     );
+}
+
+// The player with which the run begins is not used before an `R` line.
+fn main() {
+    if let Handled::Done(player) = Player::new(48_000.0) {
+        run(player);
+    }
 }

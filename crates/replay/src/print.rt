@@ -1,7 +1,8 @@
 // Answers as text. `text` is filled up to `at` and written out whenever it is full; each function
-// answers the new `at`.
+// answers the new `at`. A form is as in scan.rt.
 ghost use Prim.Native.Nat.{_+_, _<_, _≤_};
 ghost use lib.ListN.{length};
+use super::scan::numbers_in;
 use super::scan::smaller;
 use buffer::Shape;
 use libc::STDOUT_FILENO;
@@ -12,7 +13,7 @@ pub fn flush(text: &[u8], at: usize) {
     io::write_all(STDOUT_FILENO, &text[..n]);
 }
 
-pub fn put(text: &mut [u8], at: usize, b: u8) -> usize {
+fn put(text: &mut [u8], at: usize, b: u8) -> usize {
     if at < text.len() {
         text[at] = b;
         return at + 1;
@@ -25,7 +26,7 @@ pub fn put(text: &mut [u8], at: usize, b: u8) -> usize {
     0
 }
 
-pub fn put_all(text: &mut [u8], start: usize, bytes: &[u8]) -> usize {
+fn put_all(text: &mut [u8], start: usize, bytes: &[u8]) -> usize {
     let mut at = start;
     let mut i = 0;
     while i < bytes.len() {
@@ -35,87 +36,72 @@ pub fn put_all(text: &mut [u8], start: usize, bytes: &[u8]) -> usize {
     at
 }
 
-fn end_line(text: &mut [u8], at: usize) -> usize {
-    put(text, at, b'\n')
-}
-
 // The text of a line and its end.
 pub fn put_line(text: &mut [u8], at: usize, line: &[u8]) -> usize {
     let after = put_all(text, at, line);
-    end_line(text, after)
+    put(text, after, b'\n')
 }
 
-fn hex_digit(d: u8) -> u8
-    requires { ⌜ d < 16 ⌝ }
-{
+// Hex digit `place` of a number, counted from the lowest.
+fn hex_digit(value: usize, place: usize) -> u8 {
+    let d = ((value >> (place % 16 * 4)) % 16) as u8;
     if d < 10 { b'0' + d } else { b'A' + (d - 10) }
 }
 
 // The lowest `digits` hex digits of a number.
-fn put_hex(text: &mut [u8], start: usize, value: u64, digits: u64) -> usize {
+fn put_hex(text: &mut [u8], start: usize, value: usize, digits: usize) -> usize {
     let mut at = start;
     let mut left = digits;
     while left > 0 {
         left -= 1;
-        at = put(text, at, hex_digit(nibble(value, left)));
+        at = put(text, at, hex_digit(value, left));
     }
     at
 }
 
-// Hex digit `place` of a number, counted from the lowest.
-fn nibble(value: u64, place: u64) -> u8
-    ensures { λ r. ⌜ r < 16 ⌝ }
-{
-    ((value >> (place % 16 * 4)) % 16) as u8
-}
-
-pub fn put_bits(text: &mut [u8], at: usize, bits: u32) -> usize {
-    let after = put(text, at, b' ');
-    put_hex(text, after, bits as u64, 8)
-}
-
-pub fn put_f64(text: &mut [u8], at: usize, value: f64) -> usize {
-    let after = put(text, at, b' ');
-    put_hex(text, after, rounding::to_pattern_f64(value), 16)
-}
-
-pub fn put_flag(text: &mut [u8], at: usize, on: bool) -> usize {
-    let after = put(text, at, b' ');
-    put(text, after, if on { b'1' } else { b'0' })
-}
-
-// A number in decimal: its digits, the last first, then from the end.
-pub fn put_decimal(text: &mut [u8], at: usize, value: u64) -> usize {
+fn put_decimal(text: &mut [u8], at: usize, value: usize) -> usize {
     let mut digits = [0u8; 20];
-    let count = io::decimal(value, &mut digits);
+    let count = io::decimal(value as u64, &mut digits);
     put_all(text, at, &digits[..count])
 }
 
-pub fn put_count(text: &mut [u8], at: usize, value: usize) -> usize {
-    let after = put(text, at, b' ');
-    put_decimal(text, after, value as u64)
+// The byte or the number that `kind` stands for.
+fn put_field(text: &mut [u8], at: usize, kind: u8, value: usize) -> usize {
+    match kind {
+        b'd' => put_decimal(text, at, value),
+        b'w' => put_hex(text, at, value, 8),
+        b'f' => put_hex(text, at, value, 16),
+        _ => put(text, at, kind),
+    }
+}
+
+// The value at `k`, and 0 past the end.
+fn value_at(values: &[usize], k: usize) -> usize {
+    if k < values.len() { values[k] } else { 0 }
+}
+
+// The values by a form.
+pub fn put_form(text: &mut [u8], start: usize, form: &[u8], values: &[usize]) -> usize {
+    let mut at = start;
+    let mut k = 0;
+    let mut i = 0;
+    while i < form.len() {
+        at = put_field(text, at, form[i], value_at(values, k));
+        k += numbers_in(form[i]);
+        i += 1;
+    }
+    at
+}
+
+// A letter and a number.
+pub fn put_count(text: &mut [u8], at: usize, letter: u8, count: usize) -> usize {
+    let after = put(text, at, letter);
+    put_form(text, after, b" d\n", &[count])
 }
 
 // A refusal.
 pub fn put_refusal(text: &mut [u8], at: usize, number: u32) -> usize {
-    let after = put(text, at, b'X');
-    let last = put_count(text, after, number as usize);
-    end_line(text, last)
-}
-
-fn put_run(
-    text: &mut [u8],
-    at: usize,
-    channel: usize,
-    first: usize,
-    count: usize,
-    bits: u32,
-) -> usize {
-    let a = put_decimal(text, at, channel as u64);
-    let b = put_count(text, a, first);
-    let c = put_count(text, b, count);
-    let d = put_bits(text, c, bits);
-    end_line(text, d)
+    put_count(text, at, b'X', number as usize)
 }
 
 // Where the run of equal words from `first` on ends.
@@ -134,8 +120,20 @@ fn run_end(words: &[u32], first: usize) -> usize
     i
 }
 
+fn put_run(
+    text: &mut [u8],
+    at: usize,
+    channel: usize,
+    first: usize,
+    count: usize,
+    bits: u32,
+) -> usize {
+    let values = [channel, first, count, bits as usize];
+    put_form(text, at, b"d d d w\n", &values)
+}
+
 // The runs of a channel.
-pub fn put_runs(text: &mut [u8], start: usize, channel: usize, words: &[u32]) -> usize {
+fn put_runs(text: &mut [u8], start: usize, channel: usize, words: &[u32]) -> usize {
     let mut at = start;
     let mut first = 0;
     while first < words.len() {
@@ -166,23 +164,16 @@ pub fn put_channels(
     at
 }
 
+// The line of a buffer's shape.
+fn put_shape(text: &mut [u8], at: usize, letter: u8, shape: Shape) -> usize {
+    let after = put(text, at, letter);
+    let rate = rounding::to_pattern(shape.rate) as usize;
+    let values = [shape.channels, shape.frames, rate];
+    put_form(text, after, b" d d w\n", &values)
+}
+
 // A letter, the shape, and the runs of the buffer's channels.
 pub fn put_buffer(text: &mut [u8], at: usize, letter: u8, shape: Shape, words: &[u32]) -> usize {
-    let a = put(text, at, letter);
-    let b = put_count(text, a, shape.channels);
-    let c = put_count(text, b, shape.frames);
-    let d = put_bits(text, c, rounding::to_pattern(shape.rate));
-    let e = end_line(text, d);
-    put_channels(text, e, shape.channels, shape.frames, words)
-}
-
-// The line of a copy's count.
-pub fn put_copied(text: &mut [u8], at: usize, count: usize) -> usize {
-    let a = put(text, at, b'K');
-    let b = put_count(text, a, count);
-    end_line(text, b)
-}
-
-pub fn put_end(text: &mut [u8], at: usize) -> usize {
-    end_line(text, at)
+    let after = put_shape(text, at, letter, shape);
+    put_channels(text, after, shape.channels, shape.frames, words)
 }

@@ -1,15 +1,23 @@
-// Words of a line: a space, then a number of a fixed form.
+// Lines read by their form. In a form `d` stands for a decimal number, `w` for the 8 and `f` for the
+// 16 hex digits of a bit pattern, and any other byte for itself.
 ghost use Prim.Native.Nat.{_+_, _<_, _≤_};
 ghost use lib.ListN.{length};
 
-// What was read up to `at`; not good where the line has another form.
-pub struct Read {
-    pub value: u64,
-    pub at: usize,
-    pub good: bool,
+// The numbers of a line, in their order.
+pub struct Numbers {
+    pub a: usize,
+    pub b: usize,
+    pub c: usize,
+    pub d: usize,
+    pub e: usize,
+    pub f: usize,
 }
 
-const NO_DIGIT: u8 = 16;
+// A line's kind and its numbers.
+pub struct Known {
+    pub kind: usize,
+    pub n: Numbers,
+}
 
 pub fn smaller(a: usize, b: usize) -> usize
     ensures { λ r. ⌜ (r ≤ a) × (r ≤ b) ⌝ }
@@ -17,100 +25,35 @@ pub fn smaller(a: usize, b: usize) -> usize
     if a < b { a } else { b }
 }
 
-// The byte at `at`, and 0 past the end.
-pub fn byte(line: &[u8], at: usize) -> u8 {
-    if at < line.len() { line[at] } else { 0 }
-}
-
-pub fn start(at: usize) -> Read {
-    Read {
-        value: 0,
-        at,
-        good: true,
+// How many numbers a byte of a form stands for.
+pub fn numbers_in(kind: u8) -> usize
+    ensures { λ r. ⌜ r ≤ 1 ⌝ }
+{
+    match kind {
+        b'd' | b'w' | b'f' => 1,
+        _ => 0,
     }
-}
-
-fn bad() -> Read {
-    Read {
-        value: 0,
-        at: 0,
-        good: false,
-    }
-}
-
-// Whether the line ends after a good word.
-pub fn ends(line: &[u8], read: Read) -> bool {
-    if read.good {
-        return read.at == line.len();
-    }
-    false
 }
 
 // The value of an upper-case hex digit, or 16.
-fn digit(c: u8) -> u8
+fn digit(c: u8) -> usize
     ensures { λ r. ⌜ r ≤ 16 ⌝ }
 {
-    if c >= b'0' {
-        if c <= b'9' {
-            return c - b'0';
-        }
-    }
-    if c >= b'A' {
-        if c <= b'F' {
-            return c - b'A' + 10;
-        }
-    }
-    NO_DIGIT
-}
-
-// The number that the bytes are in hex.
-fn hex_value(bytes: &[u8]) -> Read {
-    let mut value: u64 = 0;
-    let mut i = 0;
-    while i < bytes.len() {
-        let d = digit(bytes[i]);
-        if d == NO_DIGIT {
-            return bad();
-        }
-        value = (value << 4) | (d as u64);
-        i += 1;
-    }
-    Read {
-        value,
-        at: i,
-        good: true,
+    match c {
+        48..=57 => (c - 48) as usize,
+        65..=70 => (c - 55) as usize,
+        _ => 16,
     }
 }
 
-// A space and exactly `digits` hex digits, after what was read.
-pub fn hex(line: &[u8], before: Read, digits: usize) -> Read {
-    let at = before.at;
-    if !before.good {
-        return bad();
-    }
-    if byte(line, at) != b' ' {
-        return bad();
-    }
-    if at >= line.len() {
-        return bad();
-    }
-    if line.len() - at - 1 < digits {
-        return bad();
-    }
-    let end = at + 1 + digits;
-    let mut read = hex_value(&line[at + 1..end]);
-    read.at = end;
-    read
-}
-
-// The end of the decimal digits from `at` on.
-fn digits_end(line: &[u8], at: usize) -> usize
+// The end of the digits from `at` on.
+fn digits_end(line: &[u8], at: usize, base: usize) -> usize
     requires { ⌜ at ≤ length (now line) ⌝ }
     ensures { λ r. ⌜ (at ≤ r) × (r ≤ length (now (line .entry))) ⌝ }
 {
     let mut i = at;
     while i < line.len() {
-        if digit(line[i]) > 9 {
+        if digit(line[i]) >= base {
             return i;
         }
         i += 1;
@@ -118,58 +61,120 @@ fn digits_end(line: &[u8], at: usize) -> usize
     i
 }
 
-// The number that up to 19 digits are.
-fn decimal_value(bytes: &[u8]) -> Read {
-    let mut value: u64 = 0;
-    let mut i = 0;
-    while i < bytes.len() {
-        if value > 1_844_674_407_370_955_159 {
-            return bad();
+// Whether a number of this kind has so many digits.
+fn has_digits(kind: u8, count: usize) -> bool {
+    match kind {
+        b'd' => count < 20,
+        b'w' => count == 8,
+        _ => count == 16,
+    }
+}
+
+// Where the byte or the number that `kind` stands for ends; `at` itself where none is there.
+pub fn word_end(line: &[u8], at: usize, kind: u8) -> usize
+    requires { ⌜ at ≤ length (now line) ⌝ }
+    ensures { λ r. ⌜ (at ≤ r) × (r ≤ length (now (line .entry))) ⌝ }
+{
+    if numbers_in(kind) == 0 {
+        return byte_end(line, at, kind);
+    }
+    let end = digits_end(line, at, if kind == b'd' { 10 } else { 16 });
+    if has_digits(kind, end - at) { end } else { at }
+}
+
+// The place after this byte, where it stands at `at`.
+fn byte_end(line: &[u8], at: usize, byte: u8) -> usize
+    requires { ⌜ at ≤ length (now line) ⌝ }
+    ensures { λ r. ⌜ (at ≤ r) × (r ≤ length (now (line .entry))) ⌝ }
+{
+    if at < line.len() {
+        if line[at] == byte {
+            return at + 1;
         }
-        value = value * 10 + (digit(bytes[i]) as u64);
+    }
+    at
+}
+
+// The number with one more digit.
+fn appended(value: usize, d: usize, kind: u8) -> usize
+    requires { ⌜ d ≤ 16 ⌝ }
+{
+    if kind != b'd' {
+        return (value << 4) | d;
+    }
+    if value > 1_844_674_407_370_955_159 {
+        return 0;
+    }
+    value * 10 + d
+}
+
+// The number that the digits are.
+pub fn value(digits: &[u8], kind: u8) -> usize {
+    let mut value = 0;
+    let mut i = 0;
+    while i < digits.len() {
+        value = appended(value, digit(digits[i]), kind);
         i += 1;
     }
-    Read {
-        value,
-        at: i,
-        good: true,
+    value
+}
+
+// The numbers with `x` as the one at `k`.
+fn with_number(n: Numbers, k: usize, x: usize) -> Numbers {
+    let mut m = n;
+    match k {
+        0 => m.a = x,
+        1 => m.b = x,
+        2 => m.c = x,
+        3 => m.d = x,
+        4 => m.e = x,
+        _ => m.f = x,
+    }
+    m
+}
+
+pub fn no_numbers() -> Numbers {
+    Numbers {
+        a: 0,
+        b: 0,
+        c: 0,
+        d: 0,
+        e: 0,
+        f: 0,
     }
 }
 
-// A space and 1 to 19 decimal digits, after what was read.
-pub fn decimal(line: &[u8], before: Read) -> Read {
-    let at = before.at;
-    if !before.good {
-        return bad();
+// The line's numbers by a form, and its kind: `kind` where it has the form, and `other` where not.
+// A byte that stands for itself leaves its place to the next number.
+pub fn read(line: &[u8], form: &[u8], kind: usize, other: usize) -> Known {
+    let mut n = no_numbers();
+    let mut k = 0;
+    let mut at = 0;
+    let mut i = 0;
+    while i < form.len() {
+        let end = word_end(line, at, form[i]);
+        if end == at {
+            return Known { kind: other, n };
+        }
+        n = with_number(n, k, value(&line[at..end], form[i]));
+        k += numbers_in(form[i]);
+        at = end;
+        i += 1;
     }
-    if byte(line, at) != b' ' {
-        return bad();
+    Known {
+        kind: if at == line.len() { kind } else { other },
+        n,
     }
-    if at >= line.len() {
-        return bad();
-    }
-    let end = digits_end(line, at + 1);
-    let count = end - at - 1;
-    if count == 0 || count > 19 {
-        return bad();
-    }
-    let mut read = decimal_value(&line[at + 1..end]);
-    read.at = end;
-    read
 }
 
-pub fn f64_of(read: Read) -> f64 {
-    rounding::from_pattern_f64(read.value)
+pub fn f64_of(value: usize) -> f64 {
+    rounding::from_pattern_f64(value as u64)
 }
 
-pub fn bits_of(read: Read) -> u32 {
-    (read.value % 0x1_0000_0000) as u32
+pub fn bits_of(value: usize) -> u32 {
+    (value % 0x1_0000_0000) as u32
 }
 
-pub fn f32_of(read: Read) -> f32 {
-    rounding::from_pattern(bits_of(read))
-}
-
-pub fn count_of(read: Read) -> usize {
-    read.value as usize
+pub fn f32_of(value: usize) -> f32 {
+    rounding::from_pattern(bits_of(value))
 }

@@ -1,4 +1,4 @@
--- `replay::calls::copy_words` is safe and ends. The invariant: i is at most n, which is at most either length. Assumes nothing.
+-- `replay::calls::copy_words` is safe and ends. The invariant bounds what is read and keeps the lengths of what is lent. Assumes nothing.
 use mathlib.Core.Path.{_≡_}
 use Prim.Native.Nat.{_-_, _≤_}
 use lib.ListN.{length}

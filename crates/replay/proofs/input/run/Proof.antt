@@ -1,33 +1,63 @@
 -- `replay::input::run` is safe and ends. The invariant bounds what is read and keeps the lengths of what is lent. Assumes nothing.
 use mathlib.Core.Path.{_≡_}
+use Prim.Native.Nat.{_≤_}
+use native.Mathlib.Omega.{arith}
 use lib.ListN.{length}
 use borrow.Author.Needs.{needs}
 use Rattle.replay.proofs.input.run.Statement.{statement}
 use Rattle.replay.proofs.input.run.Tie as tie
 
 abbrev Inv-loop : tie.InvT-loop
-Inv-loop piece₀ text₀ clip₀ words₀ first₀ rest₀ r₀ turns₀ piece text clip words first rest r turns = (length piece ≡ length piece₀) × (length text ≡ length text₀) × (length clip ≡ length clip₀) × (length words ≡ length words₀) × (length first ≡ length first₀) × (length rest ≡ length rest₀)
+Inv-loop piece₀ text₀ clip₀ words₀ first₀ m₀ order₀ r₀ turns₀ piece text clip words first m order r turns =
+    (r .from ≤ r .end) × (r .end ≤ length piece₀) × (length piece ≡ length piece₀) × (length text ≡ length text₀) × (length clip ≡ length clip₀) × (length words ≡ length words₀) × (length first ≡ length first₀)
 
 abbrev μ-loop : tie.MeasureT-loop
-μ-loop piece₀ text₀ clip₀ words₀ first₀ rest₀ r₀ turns₀ piece text clip words first rest r turns = turns
+μ-loop piece₀ text₀ clip₀ words₀ first₀ m₀ order₀ r₀ turns₀ piece text clip words first m order r turns = turns
 
-new-requires : tie.Need-new-requires Inv-loop μ-loop
-new-requires c κs = search needs
+nothing-requires : tie.Need-nothing-requires Inv-loop μ-loop
+nothing-requires c κs = search needs
+
+refilled-requires : tie.Need-refilled-requires Inv-loop μ-loop
+refilled-requires c κs = search needs
 
 loop-holds : tie.Need-loop-holds Inv-loop μ-loop
 loop-holds c = search needs
 
-step-requires : tie.Need-step-requires Inv-loop μ-loop
-step-requires c κs = search needs
-
 sub-turns : tie.Need-sub-turns Inv-loop μ-loop
 sub-turns c = search needs
 
+sub-heard : tie.Need-sub-heard Inv-loop μ-loop
+sub-heard c = search needs
+
+part-heard-start : tie.Need-part-heard-start Inv-loop μ-loop
+part-heard-start c = search needs
+
+part-heard-end : tie.Need-part-heard-end Inv-loop μ-loop
+part-heard-end c = search needs
+
+heard-requires : tie.Need-heard-requires Inv-loop μ-loop
+heard-requires c κs = search needs
+
+sub-obey : tie.Need-sub-obey Inv-loop μ-loop
+sub-obey c = search needs
+
+part-obey-start : tie.Need-part-obey-start Inv-loop μ-loop
+part-obey-start c = search needs
+
+part-obey-end : tie.Need-part-obey-end Inv-loop μ-loop
+part-obey-end c = search needs
+
+obey-requires : tie.Need-obey-requires Inv-loop μ-loop
+obey-requires c κs = search needs
+
+next-requires : tie.Need-next-requires Inv-loop μ-loop
+next-requires c κs = search needs
+
 loop-less : tie.Need-loop-less Inv-loop μ-loop
-loop-less c = search needs
+loop-less c = omega (arith, c .before .before .before .before .before .before .before .before .before .before .before .before .before .before .before .before .before .before .before .before .before .before .before .before)
 
 loop-again : tie.Need-loop-again Inv-loop μ-loop
-loop-again c = search needs
+loop-again c = omega (arith, c .before .before .before .before .before .before .before .before .before .before .before .before .before .before .before .before .before .before .before .before .before .before .before .before .before .before .loop .inv)
 
 flush-requires : tie.Need-flush-requires Inv-loop μ-loop
 flush-requires c κs = search needs
@@ -47,9 +77,6 @@ same-length-4 c = search needs
 same-length-5 : tie.Need-same-length-5 Inv-loop μ-loop
 same-length-5 c = search needs
 
-same-length-6 : tie.Need-same-length-6 Inv-loop μ-loop
-same-length-6 c = search needs
-
 returns : tie.Need-returns Inv-loop μ-loop
 returns c = search needs
 
@@ -59,10 +86,19 @@ run-spec =
     (tie.spec
     Inv-loop
     μ-loop
-    new-requires
+    nothing-requires
+    refilled-requires
     loop-holds
-    step-requires
     sub-turns
+    sub-heard
+    part-heard-start
+    part-heard-end
+    heard-requires
+    sub-obey
+    part-obey-start
+    part-obey-end
+    obey-requires
+    next-requires
     loop-less
     loop-again
     flush-requires
@@ -71,5 +107,4 @@ run-spec =
     same-length-3
     same-length-4
     same-length-5
-    same-length-6
     returns)

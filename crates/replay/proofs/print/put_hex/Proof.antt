@@ -17,9 +17,6 @@ loop-holds c = search needs
 sub-left : tie.Need-sub-left Inv-loop μ-loop
 sub-left c = search needs
 
-nibble-requires : tie.Need-nibble-requires Inv-loop μ-loop
-nibble-requires c κs = search needs
-
 hex-digit-requires : tie.Need-hex-digit-requires Inv-loop μ-loop
 hex-digit-requires c κs = search needs
 
@@ -46,7 +43,6 @@ put-hex-spec =
     μ-loop
     loop-holds
     sub-left
-    nibble-requires
     hex-digit-requires
     put-requires
     loop-less

@@ -6,10 +6,10 @@ use Rattle.replay.proofs.scan.digits_end.Statement.{statement}
 use Rattle.replay.proofs.scan.digits_end.Tie as tie
 
 abbrev Inv-loop : tie.InvT-loop
-Inv-loop line at i₀ i = (at ≤ i) × (i ≤ length line)
+Inv-loop line at base i₀ i = (at ≤ i) × (i ≤ length line)
 
 abbrev μ-loop : tie.MeasureT-loop
-μ-loop line at i₀ i = length line - i
+μ-loop line at base i₀ i = length line - i
 
 loop-holds : tie.Need-loop-holds Inv-loop μ-loop
 loop-holds c = search needs

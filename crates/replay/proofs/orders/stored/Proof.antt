@@ -1,37 +1,52 @@
--- `replay::words::stored` is safe and ends. The invariant bounds what is read and keeps the lengths of what is lent. Assumes nothing.
+-- `replay::orders::stored` is safe and ends. The invariant bounds what is read and keeps the lengths of what is lent. Assumes nothing.
 use mathlib.Core.Path.{_≡_}
 use Prim.Native.Nat.{_-_, _≤_}
 use lib.ListN.{length}
 use borrow.Author.Needs.{needs}
-use Rattle.replay.proofs.words.stored.Statement.{statement}
-use Rattle.replay.proofs.words.stored.Tie as tie
+use Rattle.replay.proofs.orders.stored.Statement.{statement}
+use Rattle.replay.proofs.orders.stored.Tie as tie
 
 abbrev Inv-loop : tie.InvT-loop
-Inv-loop line room₀ read₀ i₀ room read i = (i ≤ length room₀) × (length room ≡ length room₀)
+Inv-loop line room₀ at₀ i₀ room at i = (i ≤ length room₀) × (at ≤ length line) × (length room ≡ length room₀)
 
 abbrev μ-loop : tie.MeasureT-loop
-μ-loop line room₀ read₀ i₀ room read i = length room₀ - i
+μ-loop line room₀ at₀ i₀ room at i = length room₀ - i
 
-byte-requires : tie.Need-byte-requires Inv-loop μ-loop
-byte-requires c κs = search needs
+word-end-requires : tie.Need-word-end-requires Inv-loop μ-loop
+word-end-requires c κs = search needs
 
 returns : tie.Need-returns Inv-loop μ-loop
 returns c = search needs
 
-start-requires : tie.Need-start-requires Inv-loop μ-loop
-start-requires c κs = search needs
-
 loop-holds : tie.Need-loop-holds Inv-loop μ-loop
 loop-holds c = search needs
 
-hex-requires : tie.Need-hex-requires Inv-loop μ-loop
-hex-requires c κs = search needs
+word-end-requires-2 : tie.Need-word-end-requires-2 Inv-loop μ-loop
+word-end-requires-2 c κs = search needs
+
+word-end-requires-3 : tie.Need-word-end-requires-3 Inv-loop μ-loop
+word-end-requires-3 c κs = search needs
+
+sub-if2 : tie.Need-sub-if2 Inv-loop μ-loop
+sub-if2 c = search needs
 
 same-length : tie.Need-same-length Inv-loop μ-loop
 same-length c = search needs
 
 returns-2 : tie.Need-returns-2 Inv-loop μ-loop
 returns-2 c = search needs
+
+sub-value : tie.Need-sub-value Inv-loop μ-loop
+sub-value c = search needs
+
+part-value-start : tie.Need-part-value-start Inv-loop μ-loop
+part-value-start c = search needs
+
+part-value-end : tie.Need-part-value-end Inv-loop μ-loop
+part-value-end c = search needs
+
+value-requires : tie.Need-value-requires Inv-loop μ-loop
+value-requires c κs = search needs
 
 bits-of-requires : tie.Need-bits-of-requires Inv-loop μ-loop
 bits-of-requires c κs = search needs
@@ -44,9 +59,6 @@ slice-write-room c = search needs
 
 add-i : tie.Need-add-i Inv-loop μ-loop
 add-i c = search needs
-
-ends-requires : tie.Need-ends-requires Inv-loop μ-loop
-ends-requires c κs = search needs
 
 same-length-2 : tie.Need-same-length-2 Inv-loop μ-loop
 same-length-2 c = search needs
@@ -72,18 +84,22 @@ stored-spec =
     (tie.spec
     Inv-loop
     μ-loop
-    byte-requires
+    word-end-requires
     returns
-    start-requires
     loop-holds
-    hex-requires
+    word-end-requires-2
+    word-end-requires-3
+    sub-if2
     same-length
     returns-2
+    sub-value
+    part-value-start
+    part-value-end
+    value-requires
     bits-of-requires
     mul-room
     slice-write-room
     add-i
-    ends-requires
     same-length-2
     returns-3
     loop-less

@@ -1,15 +1,15 @@
--- `replay::scan::hex_value` is safe and ends. The invariant bounds what is read and keeps the lengths of what is lent. Assumes nothing.
+-- `replay::scan::value` is safe and ends. The invariant bounds what is read and keeps the lengths of what is lent. Assumes nothing.
 use Prim.Native.Nat.{_-_, _≤_}
 use lib.ListN.{length}
 use borrow.Author.Needs.{needs}
-use Rattle.replay.proofs.scan.hex_value.Statement.{statement}
-use Rattle.replay.proofs.scan.hex_value.Tie as tie
+use Rattle.replay.proofs.scan.value.Statement.{statement}
+use Rattle.replay.proofs.scan.value.Tie as tie
 
 abbrev Inv-loop : tie.InvT-loop
-Inv-loop bytes value₀ i₀ value i = i ≤ length bytes
+Inv-loop digits kind value₀ i₀ value i = i ≤ length digits
 
 abbrev μ-loop : tie.MeasureT-loop
-μ-loop bytes value₀ i₀ value i = length bytes - i
+μ-loop digits kind value₀ i₀ value i = length digits - i
 
 loop-holds : tie.Need-loop-holds Inv-loop μ-loop
 loop-holds c = search needs
@@ -20,14 +20,8 @@ shared-slice-read-digit c = search needs
 digit-requires : tie.Need-digit-requires Inv-loop μ-loop
 digit-requires c κs = search needs
 
-bad-requires : tie.Need-bad-requires Inv-loop μ-loop
-bad-requires c κs = search needs
-
-returns : tie.Need-returns Inv-loop μ-loop
-returns c = search needs
-
-cast-value : tie.Need-cast-value Inv-loop μ-loop
-cast-value c = search needs
+appended-requires : tie.Need-appended-requires Inv-loop μ-loop
+appended-requires c κs = search needs
 
 add-i : tie.Need-add-i Inv-loop μ-loop
 add-i c = search needs
@@ -38,11 +32,11 @@ loop-less c = search needs
 loop-again : tie.Need-loop-again Inv-loop μ-loop
 loop-again c = search needs
 
-returns-2 : tie.Need-returns-2 Inv-loop μ-loop
-returns-2 c = search needs
+returns : tie.Need-returns Inv-loop μ-loop
+returns c = search needs
 
-pub hex-value-spec : {M : Type 1} → statement M
-hex-value-spec =
+pub value-spec : {M : Type 1} → statement M
+value-spec =
     tie.close
     (tie.spec
     Inv-loop
@@ -50,10 +44,8 @@ hex-value-spec =
     loop-holds
     shared-slice-read-digit
     digit-requires
-    bad-requires
-    returns
-    cast-value
+    appended-requires
     add-i
     loop-less
     loop-again
-    returns-2)
+    returns)

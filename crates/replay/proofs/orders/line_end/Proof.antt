@@ -1,15 +1,15 @@
--- `replay::input::line_end` is safe and ends and meets its contract. The invariant bounds what is read and keeps the lengths of what is lent. Assumes nothing.
+-- `replay::orders::line_end` is safe and ends and meets its contract. The invariant bounds what is read and keeps the lengths of what is lent. Assumes nothing.
 use Prim.Native.Nat.{_-_, _≤_}
 use lib.ListN.{length}
 use borrow.Author.Needs.{needs}
-use Rattle.replay.proofs.input.line_end.Statement.{statement}
-use Rattle.replay.proofs.input.line_end.Tie as tie
+use Rattle.replay.proofs.orders.line_end.Statement.{statement}
+use Rattle.replay.proofs.orders.line_end.Tie as tie
 
 abbrev Inv-loop : tie.InvT-loop
-Inv-loop piece at i₀ i = (at ≤ i) × (i ≤ length piece)
+Inv-loop piece at to i₀ i = (at ≤ i) × (i ≤ to) × (to ≤ length piece)
 
 abbrev μ-loop : tie.MeasureT-loop
-μ-loop piece at i₀ i = length piece - i
+μ-loop piece at to i₀ i = to - i
 
 loop-holds : tie.Need-loop-holds Inv-loop μ-loop
 loop-holds c = search needs

@@ -1,0 +1,68 @@
+-- `replay::print::put_form` is safe and ends. The invariant bounds what is read and keeps the lengths of what is lent. Assumes nothing.
+use mathlib.Core.Path.{_≡_}
+use Prim.Native.Nat.{_-_, _≤_}
+use lib.ListN.{length}
+use borrow.Author.Needs.{needs}
+use Rattle.replay.proofs.print.put_form.Statement.{statement}
+use Rattle.replay.proofs.print.put_form.Tie as tie
+
+abbrev Inv-loop : tie.InvT-loop
+Inv-loop text₀ start form values at₀ k₀ i₀ text at k i = (i ≤ length form) × (k ≤ i) × (length text ≡ length text₀)
+
+abbrev μ-loop : tie.MeasureT-loop
+μ-loop text₀ start form values at₀ k₀ i₀ text at k i = length form - i
+
+loop-holds : tie.Need-loop-holds Inv-loop μ-loop
+loop-holds c = search needs
+
+shared-slice-read-put-field : tie.Need-shared-slice-read-put-field Inv-loop μ-loop
+shared-slice-read-put-field c = search needs
+
+value-at-requires : tie.Need-value-at-requires Inv-loop μ-loop
+value-at-requires c κs = search needs
+
+put-field-requires : tie.Need-put-field-requires Inv-loop μ-loop
+put-field-requires c κs = search needs
+
+shared-slice-read-numbers-in : tie.Need-shared-slice-read-numbers-in Inv-loop μ-loop
+shared-slice-read-numbers-in c = search needs
+
+numbers-in-requires : tie.Need-numbers-in-requires Inv-loop μ-loop
+numbers-in-requires c κs = search needs
+
+add-k : tie.Need-add-k Inv-loop μ-loop
+add-k c = search needs
+
+add-i : tie.Need-add-i Inv-loop μ-loop
+add-i c = search needs
+
+loop-less : tie.Need-loop-less Inv-loop μ-loop
+loop-less c = search needs
+
+loop-again : tie.Need-loop-again Inv-loop μ-loop
+loop-again c = search needs
+
+same-length : tie.Need-same-length Inv-loop μ-loop
+same-length c = search needs
+
+returns : tie.Need-returns Inv-loop μ-loop
+returns c = search needs
+
+pub put-form-spec : {M : Type 1} → statement M
+put-form-spec =
+    tie.close
+    (tie.spec
+    Inv-loop
+    μ-loop
+    loop-holds
+    shared-slice-read-put-field
+    value-at-requires
+    put-field-requires
+    shared-slice-read-numbers-in
+    numbers-in-requires
+    add-k
+    add-i
+    loop-less
+    loop-again
+    same-length
+    returns)
