@@ -15,18 +15,10 @@ use player::Player;
 
 fn run(player: Player) {
     let mut piece = io::large_buffer();
-    let mut text = io::large_buffer();
     let mut clip = room();
     let mut words = room();
     let mut first = room();
-    input::run(
-        player,
-        &mut piece,
-        &mut text,
-        &mut clip,
-        &mut words,
-        &mut first,
-    );
+    input::run(player, &mut piece, &mut clip, &mut words, &mut first);
 }
 
 // The player with which the run begins is not used before an `R` line.

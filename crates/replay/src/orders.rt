@@ -1,6 +1,8 @@
 // A line of input as an order: what it asks for, its numbers, and the words that it waits for.
 ghost use Prim.Native.Nat.{_+_, _*_, _<_, _≤_};
 ghost use lib.ListN.{length};
+use super::print::put_line;
+use super::print::put_refusal;
 use super::scan::Known;
 use super::scan::Numbers;
 use super::scan::bits_of;
@@ -45,15 +47,13 @@ pub const SPLIT: usize = 15;
 
 pub const CONVERT: usize = 16;
 
-// A line that is none of these; a call whose shape is outside the limits; a line that is printed;
-// a call whose words are not all there.
+// A line that is none of these; a call whose shape is outside the limits; a call whose words are
+// not all there, or nothing.
 pub const UNKNOWN: usize = 17;
 
 pub const BAD_SHAPE: usize = 18;
 
-pub const COMMENT: usize = 19;
-
-pub const WAITING: usize = 20;
+pub const WAITING: usize = 19;
 
 // The room for a copy's destination; the protocol allows 16,777,216.
 const LEN_MAX: usize = 262_144;
@@ -63,14 +63,12 @@ const OUTPUT_MAX: usize = 65_536;
 // The size of a shape outside the limits.
 const NO_SIZE: usize = 2_000_000_000;
 
-// An order; `due` is its kind once its words are all there. `dropped` tells that it came while
-// another one waited for words.
+// An order; `due` is its kind once its words are all there.
 pub struct Order {
     pub kind: usize,
     pub due: usize,
     pub wanted: usize,
     pub got: usize,
-    pub dropped: bool,
     pub n: Numbers,
 }
 
@@ -188,22 +186,21 @@ fn due(kind: usize, wanted: usize, got: usize) -> usize {
     if got < wanted { WAITING } else { kind }
 }
 
-// A new order.
-fn begun(line: &[u8], made: bool, room: usize, dropped: bool) -> Order {
+// A new order. A comment is printed, and asks for nothing.
+fn begun(line: &[u8], made: bool, room: usize) -> Order {
+    if is_comment(line) {
+        put_line(line);
+        return nothing();
+    }
     let known = order_of(line);
     let n = known.n;
-    let kind = if is_comment(line) {
-        COMMENT
-    } else {
-        admitted(known.kind, n, made, room)
-    };
+    let kind = admitted(known.kind, n, made, room);
     let wanted = wanted(kind, n);
     Order {
         kind,
         due: due(kind, wanted, 0),
         wanted,
         got: 0,
-        dropped,
         n,
     }
 }
@@ -232,18 +229,25 @@ fn stored(line: &[u8], room: &mut [u32]) -> usize {
     0
 }
 
+// `X 0` for a call that is given up.
+fn put_dropped(order: Order) {
+    if order.got < order.wanted {
+        put_refusal(0);
+    }
+}
+
 // The order after a line: the waiting one with more words, or a new one.
 pub fn heard(order: Order, line: &[u8], made: bool, words: &mut [u32]) -> Order {
     let to = smaller(order.wanted, words.len());
     let from = smaller(order.got, to);
     let count = stored(line, &mut words[from..to]);
     if count == 0 {
-        return begun(line, made, words.len(), order.got < order.wanted);
+        put_dropped(order);
+        return begun(line, made, words.len());
     }
     let mut next = order;
     next.got = from + smaller(count, to - from);
     next.due = due(next.kind, next.wanted, next.got);
-    next.dropped = false;
     next
 }
 
@@ -254,7 +258,6 @@ pub fn nothing() -> Order {
         due: WAITING,
         wanted: 0,
         got: 0,
-        dropped: false,
         n: no_numbers(),
     }
 }

@@ -1,5 +1,4 @@
-// Answers as text. `text` is filled up to `at` and written out whenever it is full; each function
-// answers the new `at`. A form is as in scan.rt.
+// Answers as text, each line written out as soon as it is whole. A form is as in scan.rt.
 ghost use Prim.Native.Nat.{_+_, _<_, _≤_};
 ghost use lib.ListN.{length};
 use super::scan::numbers_in;
@@ -8,22 +7,18 @@ use buffer::Shape;
 use libc::STDOUT_FILENO;
 
 // Writes out what is filled.
-pub fn flush(text: &[u8], at: usize) {
+fn flush(text: &[u8], at: usize) {
     let n = smaller(at, text.len());
     io::write_all(STDOUT_FILENO, &text[..n]);
 }
 
+// Stores a byte at `at`, where there is room, and answers the place after it.
 fn put(text: &mut [u8], at: usize, b: u8) -> usize {
     if at < text.len() {
         text[at] = b;
         return at + 1;
     }
-    flush(text, at);
-    if text.len() > 0 {
-        text[0] = b;
-        return 1;
-    }
-    0
+    at
 }
 
 fn put_all(text: &mut [u8], start: usize, bytes: &[u8]) -> usize {
@@ -36,10 +31,10 @@ fn put_all(text: &mut [u8], start: usize, bytes: &[u8]) -> usize {
     at
 }
 
-// The text of a line and its end.
-pub fn put_line(text: &mut [u8], at: usize, line: &[u8]) -> usize {
-    let after = put_all(text, at, line);
-    put(text, after, b'\n')
+// A line as it is.
+pub fn put_line(line: &[u8]) {
+    io::write_all(STDOUT_FILENO, line);
+    io::write_all(STDOUT_FILENO, b"\n");
 }
 
 // Hex digit `place` of a number, counted from the lowest.
@@ -80,9 +75,9 @@ fn value_at(values: &[usize], k: usize) -> usize {
     if k < values.len() { values[k] } else { 0 }
 }
 
-// The values by a form.
-pub fn put_form(text: &mut [u8], start: usize, form: &[u8], values: &[usize]) -> usize {
-    let mut at = start;
+// Fills the text with the values by a form, and answers how far.
+fn filled(text: &mut [u8], form: &[u8], values: &[usize]) -> usize {
+    let mut at = 0;
     let mut k = 0;
     let mut i = 0;
     while i < form.len() {
@@ -93,15 +88,16 @@ pub fn put_form(text: &mut [u8], start: usize, form: &[u8], values: &[usize]) ->
     at
 }
 
-// A letter and a number.
-pub fn put_count(text: &mut [u8], at: usize, letter: u8, count: usize) -> usize {
-    let after = put(text, at, letter);
-    put_form(text, after, b" d\n", &[count])
+// A line of values by a form. The longest line, that of `Z`, has 169 bytes.
+pub fn put_form(form: &[u8], values: &[usize]) {
+    let mut text = [0u8; 256];
+    let end = filled(&mut text, form, values);
+    flush(&text, end);
 }
 
 // A refusal.
-pub fn put_refusal(text: &mut [u8], at: usize, number: u32) -> usize {
-    put_count(text, at, b'X', number as usize)
+pub fn put_refusal(number: u32) {
+    put_form(b"X d\n", &[number as usize]);
 }
 
 // Where the run of equal words from `first` on ends.
@@ -120,60 +116,38 @@ fn run_end(words: &[u32], first: usize) -> usize
     i
 }
 
-fn put_run(
-    text: &mut [u8],
-    at: usize,
-    channel: usize,
-    first: usize,
-    count: usize,
-    bits: u32,
-) -> usize {
+fn put_run(channel: usize, first: usize, count: usize, bits: u32) {
     let values = [channel, first, count, bits as usize];
-    put_form(text, at, b"d d d w\n", &values)
+    put_form(b"d d d w\n", &values)
 }
 
 // The runs of a channel.
-fn put_runs(text: &mut [u8], start: usize, channel: usize, words: &[u32]) -> usize {
-    let mut at = start;
+fn put_runs(channel: usize, words: &[u32]) {
     let mut first = 0;
     while first < words.len() {
         let end = run_end(words, first);
-        at = put_run(text, at, channel, first, end - first, words[first]);
+        put_run(channel, first, end - first, words[first]);
         first = end;
     }
-    at
 }
 
 // The runs of `count` channels of `frames` words, one channel after another.
-pub fn put_channels(
-    text: &mut [u8],
-    start: usize,
-    count: usize,
-    frames: usize,
-    words: &[u32],
-) -> usize {
-    let mut at = start;
+pub fn put_channels(count: usize, frames: usize, words: &[u32]) {
     let mut from = 0;
     let mut c = 0;
     while c < count {
         let to = from + smaller(frames, words.len() - from);
-        at = put_runs(text, at, c, &words[from..to]);
+        put_runs(c, &words[from..to]);
         from = to;
         c += 1;
     }
-    at
-}
-
-// The line of a buffer's shape.
-fn put_shape(text: &mut [u8], at: usize, letter: u8, shape: Shape) -> usize {
-    let after = put(text, at, letter);
-    let rate = rounding::to_pattern(shape.rate) as usize;
-    let values = [shape.channels, shape.frames, rate];
-    put_form(text, after, b" d d w\n", &values)
 }
 
 // A letter, the shape, and the runs of the buffer's channels.
-pub fn put_buffer(text: &mut [u8], at: usize, letter: u8, shape: Shape, words: &[u32]) -> usize {
-    let after = put_shape(text, at, letter, shape);
-    put_channels(text, after, shape.channels, shape.frames, words)
+pub fn put_buffer(letter: u8, shape: Shape, words: &[u32]) {
+    let rate = rounding::to_pattern(shape.rate) as usize;
+    let values = [shape.channels, shape.frames, rate];
+    let form = [letter, b' ', b'd', b' ', b'd', b' ', b'w', b'\n'];
+    put_form(&form, &values);
+    put_channels(shape.channels, shape.frames, words);
 }

@@ -1,16 +1,16 @@
--- `replay::print::put_form` is safe and ends. The invariant bounds what is read and keeps the lengths of what is lent. Assumes nothing.
+-- `replay::print::filled` is safe and ends. The invariant bounds what is read and keeps the lengths of what is lent. Assumes nothing.
 use mathlib.Core.Path.{_≡_}
 use Prim.Native.Nat.{_-_, _≤_}
 use lib.ListN.{length}
 use borrow.Author.Needs.{needs}
-use Rattle.replay.proofs.print.put_form.Statement.{statement}
-use Rattle.replay.proofs.print.put_form.Tie as tie
+use Rattle.replay.proofs.print.filled.Statement.{statement}
+use Rattle.replay.proofs.print.filled.Tie as tie
 
 abbrev Inv-loop : tie.InvT-loop
-Inv-loop text₀ start form values at₀ k₀ i₀ text at k i = (i ≤ length form) × (k ≤ i) × (length text ≡ length text₀)
+Inv-loop text₀ form values at₀ k₀ i₀ text at k i = (i ≤ length form) × (k ≤ i) × (length text ≡ length text₀)
 
 abbrev μ-loop : tie.MeasureT-loop
-μ-loop text₀ start form values at₀ k₀ i₀ text at k i = length form - i
+μ-loop text₀ form values at₀ k₀ i₀ text at k i = length form - i
 
 loop-holds : tie.Need-loop-holds Inv-loop μ-loop
 loop-holds c = search needs
@@ -48,8 +48,8 @@ same-length c = search needs
 returns : tie.Need-returns Inv-loop μ-loop
 returns c = search needs
 
-pub put-form-spec : {M : Type 1} → statement M
-put-form-spec =
+pub filled-spec : {M : Type 1} → statement M
+filled-spec =
     tie.close
     (tie.spec
     Inv-loop
