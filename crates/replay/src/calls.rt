@@ -4,7 +4,6 @@ ghost use lib.ListN.{length};
 use super::control::shown;
 use super::orders::COPY_FROM;
 use super::orders::EXTEND;
-use super::orders::Order;
 use super::orders::size;
 use super::print::put_buffer;
 use super::print::put_channels;
@@ -46,24 +45,16 @@ fn fill(to: &mut [u32], word: u32) {
     }
 }
 
-// A copy out into `to`.
-fn copy_from(n: Numbers, words: &[u32], to: &mut [u32]) -> Copied {
-    fill(to, UNTOUCHED);
-    buffer::copy_from_channel_with_offset(n.a, n.b, words, to, n.c, n.d)
-}
-
-// A copy in: `words` are the buffer's, then the source's.
-fn copy_to(n: Numbers, words: &[u32], samples: &mut [u32]) -> Copied {
-    let len = smaller(samples.len(), words.len());
-    frames::copy_frames(samples, words);
-    buffer::copy_to_channel_with_offset(n.a, n.b, samples, &words[len..], n.c, n.d)
-}
-
+// A copy out into `to`; or a copy in, where `words` are those of the buffer, which `to` then holds,
+// and those of the source.
 fn copied(due: usize, n: Numbers, words: &[u32], to: &mut [u32]) -> Copied {
     if due == COPY_FROM {
-        return copy_from(n, words, to);
+        fill(to, UNTOUCHED);
+        return buffer::copy_from_channel_with_offset(n.a, n.b, words, to, n.c, n.d);
     }
-    copy_to(n, words, to)
+    let len = smaller(to.len(), words.len());
+    frames::copy_frames(to, words);
+    buffer::copy_to_channel_with_offset(n.a, n.b, to, &words[len..], n.c, n.d)
 }
 
 // A copy's answer, and what it left: the destination's words, or the buffer.
@@ -175,13 +166,12 @@ fn called(due: usize, n: Numbers, words: &[u32], first: &mut [u32]) {
 }
 
 // Answers an order that leaves the player alone.
-pub fn answered(order: Order, player: Player, words: &[u32], first: &mut [u32]) {
-    let due = order.due;
+pub fn answered(due: usize, n: Numbers, player: Player, words: &[u32], first: &mut [u32]) {
     match due {
-        1 => shown(player),
+        11 => shown(player),
         12..=16 => {
-            let j = smaller(first_size(due, order.n, order.wanted), first.len());
-            called(due, order.n, words, &mut first[..j])
+            let j = smaller(first_size(due, n, words.len()), first.len());
+            called(due, n, words, &mut first[..j])
         }
         17 => put_refusal(0),
         18 => put_refusal(buffer::refusals::SHAPE),

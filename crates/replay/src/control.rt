@@ -2,7 +2,6 @@
 use super::orders::BLOCK;
 use super::orders::BLOCK_SAMPLES;
 use super::orders::CLIP;
-use super::orders::Order;
 use super::orders::RATE;
 use super::print::put_channels;
 use super::print::put_form;
@@ -29,11 +28,11 @@ pub struct Machine {
 fn message(due: usize, n: Numbers) -> ControlMessage {
     let x = f64_of(n.a);
     match due {
-        5 => ControlMessage::Start(x, f64_of(n.b), f64_of(n.c)),
-        6 => ControlMessage::Stop(x),
-        7 => ControlMessage::LoopStart(x),
-        8 => ControlMessage::LoopEnd(x),
-        9 => ControlMessage::Loop(false),
+        1 => ControlMessage::Start(x, f64_of(n.b), f64_of(n.c)),
+        2 => ControlMessage::Stop(x),
+        3 => ControlMessage::LoopStart(x),
+        4 => ControlMessage::LoopEnd(x),
+        5 => ControlMessage::Loop(false),
         _ => ControlMessage::Loop(true),
     }
 }
@@ -42,7 +41,7 @@ fn message(due: usize, n: Numbers) -> ControlMessage {
 fn handled(player: Player, due: usize, n: Numbers, words: &[u32]) -> Handled {
     match due {
         0 => Player::new(f32_of(n.a)),
-        11 => player.set_buffer(n.a, n.b, f32_of(n.c), words),
+        7 => player.set_buffer(n.a, n.b, f32_of(n.c), words),
         _ => player.handle_control_message(message(due, n)),
     }
 }
@@ -65,20 +64,19 @@ fn is_made(due: usize, before: bool, accepted: bool) -> bool {
 }
 
 // Messages, clips and `R` lines.
-pub fn told(m: Machine, order: Order, words: &[u32], clip: &mut [u32]) -> Machine {
+pub fn told(m: Machine, due: usize, n: Numbers, words: &[u32], clip: &mut [u32]) -> Machine {
     let player = m.player;
-    let n = order.n;
-    match handled(player, order.due, n, words) {
+    match handled(player, due, n, words) {
         Handled::Done(next) => Machine {
             player: next,
-            made: is_made(order.due, m.made, true),
-            clip: kept(order.due, m.clip, words, clip),
+            made: is_made(due, m.made, true),
+            clip: kept(due, m.clip, words, clip),
         },
         Handled::Refused(number) => {
             put_refusal(number);
             Machine {
                 player,
-                made: is_made(order.due, m.made, false),
+                made: is_made(due, m.made, false),
                 clip: m.clip,
             }
         }
@@ -119,27 +117,18 @@ fn reported(player: Player, answer: Rendered, out: &[u32]) -> Player {
 }
 
 // The length of the output that is lent, and below of the samples, where the line names them.
-fn output_length(order: Order) -> usize {
-    if order.due == BLOCK {
-        OUTPUT
-    } else {
-        order.n.d
-    }
+fn output_length(due: usize, n: Numbers) -> usize {
+    if due == BLOCK { OUTPUT } else { n.d }
 }
 
-fn samples_length(order: Order, clip: usize) -> usize {
-    if order.due == BLOCK_SAMPLES {
-        order.n.e
-    } else {
-        clip
-    }
+fn samples_length(due: usize, n: Numbers, clip: usize) -> usize {
+    if due == BLOCK_SAMPLES { n.e } else { clip }
 }
 
 // `B` lines.
-pub fn block(m: Machine, order: Order, clip: &[u32], out: &mut [u32]) -> Machine {
-    let n = order.n;
-    let j = smaller(output_length(order), out.len());
-    let k = smaller(samples_length(order, m.clip), clip.len());
+pub fn block(m: Machine, due: usize, n: Numbers, clip: &[u32], out: &mut [u32]) -> Machine {
+    let j = smaller(output_length(due, n), out.len());
+    let k = smaller(samples_length(due, n, m.clip), clip.len());
     let answer = m.player.process(
         &mut out[..j],
         &clip[..k],

@@ -5,7 +5,10 @@ use super::calls::answered;
 use super::control::Machine;
 use super::control::block;
 use super::control::told;
+use super::orders::BLOCK_SAMPLES;
+use super::orders::CLIP;
 use super::orders::Order;
+use super::orders::due;
 use super::orders::heard;
 use super::orders::line_end;
 use super::orders::nothing;
@@ -48,7 +51,7 @@ fn refilled(piece: &mut [u8], from: usize, to: usize) -> Reading
     let begun = moved(piece, from, to);
     let kept = behind(begun, piece.len());
     let got = io::read_full(STDIN_FILENO, &mut piece[kept..]);
-    let filled = smaller(kept + smaller(got, piece.len() - kept), piece.len());
+    let filled = kept + got;
     Reading {
         from: 0,
         end: line_end(piece, 0, filled),
@@ -71,16 +74,18 @@ fn next(r: Reading, piece: &mut [u8]) -> Reading
 
 // Obeys the order that is due, with its words.
 fn obeyed(m: Machine, order: Order, clip: &mut [u32], words: &[u32], first: &mut [u32]) -> Machine {
-    let due = order.due;
-    let n = smaller(order.wanted, words.len());
-    match due {
-        0 | 5..=11 => told(m, order, &words[..n], clip),
-        2..=4 => block(m, order, clip, first),
-        _ => {
-            answered(order, m.player, &words[..n], first);
-            m
-        }
+    let due = due(order);
+    let n = order.n;
+    if due <= CLIP {
+        let len = smaller(order.wanted, words.len());
+        return told(m, due, n, &words[..len], clip);
     }
+    if due <= BLOCK_SAMPLES {
+        return block(m, due, n, clip, first);
+    }
+    let len = smaller(order.wanted, words.len());
+    answered(due, n, m.player, &words[..len], first);
+    m
 }
 
 // All the input. Nothing says that it ends, so the loop counts its turns down.

@@ -12,30 +12,31 @@ use super::scan::smaller;
 use super::scan::value;
 use super::scan::word_end;
 
-// The kinds of order, in the order of the table in `order_of`.
+// The kinds of order, in the order of the table in `order_of`: those that tell the player something,
+// the blocks, and those that leave the player alone.
 pub const RATE: usize = 0;
 
-pub const SHOW: usize = 1;
+pub const START: usize = 1;
 
-pub const BLOCK: usize = 2;
+pub const STOP: usize = 2;
 
-pub const BLOCK_OUTPUT: usize = 3;
+pub const LOOP_START: usize = 3;
 
-pub const BLOCK_SAMPLES: usize = 4;
+pub const LOOP_END: usize = 4;
 
-pub const START: usize = 5;
+pub const LOOP_OFF: usize = 5;
 
-pub const STOP: usize = 6;
+pub const LOOP_ON: usize = 6;
 
-pub const LOOP_START: usize = 7;
+pub const CLIP: usize = 7;
 
-pub const LOOP_END: usize = 8;
+pub const BLOCK: usize = 8;
 
-pub const LOOP_OFF: usize = 9;
+pub const BLOCK_OUTPUT: usize = 9;
 
-pub const LOOP_ON: usize = 10;
+pub const BLOCK_SAMPLES: usize = 10;
 
-pub const CLIP: usize = 11;
+pub const SHOW: usize = 11;
 
 pub const COPY_FROM: usize = 12;
 
@@ -63,10 +64,9 @@ const OUTPUT_MAX: usize = 65_536;
 // The size of a shape outside the limits.
 const NO_SIZE: usize = 2_000_000_000;
 
-// An order; `due` is its kind once its words are all there.
+// An order, the words that it waits for, and how many of them are there.
 pub struct Order {
     pub kind: usize,
-    pub due: usize,
     pub wanted: usize,
     pub got: usize,
     pub n: Numbers,
@@ -91,7 +91,7 @@ pub fn size(channels: usize, frames: usize) -> usize
 // The words that an order waits for.
 fn wanted(kind: usize, n: Numbers) -> usize {
     match kind {
-        11 | 12 | 15 | 16 => size(n.a, n.b),
+        7 | 12 | 15 | 16 => size(n.a, n.b),
         13 => size(n.a, n.b) + smaller(n.e, LEN_MAX),
         14 => size(n.a, n.b) + size(n.d, n.e),
         _ => 0,
@@ -101,8 +101,8 @@ fn wanted(kind: usize, n: Numbers) -> usize {
 // Whether a length that the line names is above its bound.
 fn is_too_long(kind: usize, n: Numbers, room: usize) -> bool {
     match kind {
-        3 => n.d > OUTPUT_MAX,
-        4 => n.d > OUTPUT_MAX || n.e > room,
+        9 => n.d > OUTPUT_MAX,
+        10 => n.d > OUTPUT_MAX || n.e > room,
         12 | 13 => n.e > LEN_MAX,
         _ => false,
     }
@@ -111,7 +111,7 @@ fn is_too_long(kind: usize, n: Numbers, room: usize) -> bool {
 // The kind that is obeyed: one that needs a player is unknown without it, and so is what has no
 // room.
 fn admitted(kind: usize, n: Numbers, made: bool, room: usize) -> usize {
-    if kind >= SHOW && kind <= CLIP && !made {
+    if kind >= START && kind <= SHOW && !made {
         return UNKNOWN;
     }
     if is_too_long(kind, n, room) {
@@ -170,25 +170,22 @@ fn matched(line: &[u8], forms: &[u8]) -> Known {
 fn order_of(line: &[u8]) -> Known {
     matched(
         line,
-        b"R w\nZ\nB f w f\nB f w f d\nB f w f d d\nS f f f\nT f\nP f\nE f\nL 0\nL 1\nC d d w\nKF d d d d d\nKT d d d d d\nJ d d w d d w\nV d d w d\nQ d d w w\n",
+        b"R w\nS f f f\nT f\nP f\nE f\nL 0\nL 1\nC d d w\nB f w f\nB f w f d\nB f w f d d\nZ\nKF d d d d d\nKT d d d d d\nJ d d w d d w\nV d d w d\nQ d d w w\n",
     )
 }
 
-fn is_comment(line: &[u8]) -> bool {
-    if line.len() > 0 {
-        line[0] == b'#'
+// The kind of an order once its words are all there.
+pub fn due(order: Order) -> usize {
+    if order.got < order.wanted {
+        WAITING
     } else {
-        false
+        order.kind
     }
-}
-
-fn due(kind: usize, wanted: usize, got: usize) -> usize {
-    if got < wanted { WAITING } else { kind }
 }
 
 // A new order. A comment is printed, and asks for nothing.
 fn begun(line: &[u8], made: bool, room: usize) -> Order {
-    if is_comment(line) {
+    if word_end(line, 0, b'#') > 0 {
         put_line(line);
         return nothing();
     }
@@ -198,7 +195,6 @@ fn begun(line: &[u8], made: bool, room: usize) -> Order {
     let wanted = wanted(kind, n);
     Order {
         kind,
-        due: due(kind, wanted, 0),
         wanted,
         got: 0,
         n,
@@ -247,7 +243,6 @@ pub fn heard(order: Order, line: &[u8], made: bool, words: &mut [u32]) -> Order 
     }
     let mut next = order;
     next.got = from + smaller(count, to - from);
-    next.due = due(next.kind, next.wanted, next.got);
     next
 }
 
@@ -255,7 +250,6 @@ pub fn heard(order: Order, line: &[u8], made: bool, words: &mut [u32]) -> Order 
 pub fn nothing() -> Order {
     Order {
         kind: WAITING,
-        due: WAITING,
         wanted: 0,
         got: 0,
         n: no_numbers(),

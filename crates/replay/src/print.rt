@@ -81,8 +81,9 @@ fn filled(text: &mut [u8], form: &[u8], values: &[usize]) -> usize {
     let mut k = 0;
     let mut i = 0;
     while i < form.len() {
-        at = put_field(text, at, form[i], value_at(values, k));
-        k += numbers_in(form[i]);
+        let b = form[i];
+        at = put_field(text, at, b, value_at(values, k));
+        k += numbers_in(b);
         i += 1;
     }
     at

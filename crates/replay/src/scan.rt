@@ -152,12 +152,13 @@ pub fn read(line: &[u8], form: &[u8], kind: usize, other: usize) -> Known {
     let mut at = 0;
     let mut i = 0;
     while i < form.len() {
-        let end = word_end(line, at, form[i]);
+        let b = form[i];
+        let end = word_end(line, at, b);
         if end == at {
             return Known { kind: other, n };
         }
-        n = with_number(n, k, value(&line[at..end], form[i]));
-        k += numbers_in(form[i]);
+        n = with_number(n, k, value(&line[at..end], b));
+        k += numbers_in(b);
         at = end;
         i += 1;
     }

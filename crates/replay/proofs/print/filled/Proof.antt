@@ -15,17 +15,14 @@ abbrev μ-loop : tie.MeasureT-loop
 loop-holds : tie.Need-loop-holds Inv-loop μ-loop
 loop-holds c = search needs
 
-shared-slice-read-put-field : tie.Need-shared-slice-read-put-field Inv-loop μ-loop
-shared-slice-read-put-field c = search needs
+shared-slice-read-b : tie.Need-shared-slice-read-b Inv-loop μ-loop
+shared-slice-read-b c = search needs
 
 value-at-requires : tie.Need-value-at-requires Inv-loop μ-loop
 value-at-requires c κs = search needs
 
 put-field-requires : tie.Need-put-field-requires Inv-loop μ-loop
 put-field-requires c κs = search needs
-
-shared-slice-read-numbers-in : tie.Need-shared-slice-read-numbers-in Inv-loop μ-loop
-shared-slice-read-numbers-in c = search needs
 
 numbers-in-requires : tie.Need-numbers-in-requires Inv-loop μ-loop
 numbers-in-requires c κs = search needs
@@ -55,10 +52,9 @@ filled-spec =
     Inv-loop
     μ-loop
     loop-holds
-    shared-slice-read-put-field
+    shared-slice-read-b
     value-at-requires
     put-field-requires
-    shared-slice-read-numbers-in
     numbers-in-requires
     add-k
     add-i
