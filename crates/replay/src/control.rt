@@ -5,6 +5,7 @@ use super::orders::CLIP;
 use super::orders::RATE;
 use super::print::put_channels;
 use super::print::put_form;
+use super::print::put_line;
 use super::print::put_refusal;
 use super::scan::Numbers;
 use super::scan::f32_of;
@@ -143,8 +144,8 @@ pub fn block(m: Machine, due: usize, n: Numbers, clip: &[u32], out: &mut [u32]) 
     }
 }
 
-// The player's numbers, as `Z` prints them.
-fn state(p: Player) -> [usize; 16] {
+// The player's numbers, as `Z` prints them, but for the last.
+fn state(p: Player) -> [usize; 15] {
     [
         pattern(p.start_time.0),
         pattern(p.stop_time.0),
@@ -161,15 +162,15 @@ fn state(p: Player) -> [usize; 16] {
         bit(p.render_state.ended),
         bit(p.has_start),
         bit(p.has_buffer),
-        pattern(p.block_time.0),
     ]
 }
 
 // `Z` lines.
 pub fn shown(player: Player) {
     let values = state(player);
+    put_form(b"Z f f f f d f f f d d f d d d d", &values);
     if player.has_block {
-        return put_form(b"Z f f f f d f f f d d f d d d d f\n", &values);
+        return put_form(b" f\n", &[pattern(player.block_time.0)]);
     }
-    put_form(b"Z f f f f d f f f d d f d d d d none\n", &values)
+    put_line(b" none")
 }

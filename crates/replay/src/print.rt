@@ -1,35 +1,11 @@
 // Answers as text, each line written out as soon as it is whole. A form is as in scan.rt.
 ghost use Prim.Native.Nat.{_+_, _<_, _≤_};
 ghost use lib.ListN.{length};
+use super::scan::base_of;
 use super::scan::numbers_in;
 use super::scan::smaller;
 use buffer::Shape;
 use libc::STDOUT_FILENO;
-
-// Writes out what is filled.
-fn flush(text: &[u8], at: usize) {
-    let n = smaller(at, text.len());
-    io::write_all(STDOUT_FILENO, &text[..n]);
-}
-
-// Stores a byte at `at`, where there is room, and answers the place after it.
-fn put(text: &mut [u8], at: usize, b: u8) -> usize {
-    if at < text.len() {
-        text[at] = b;
-        return at + 1;
-    }
-    at
-}
-
-fn put_all(text: &mut [u8], start: usize, bytes: &[u8]) -> usize {
-    let mut at = start;
-    let mut i = 0;
-    while i < bytes.len() {
-        at = put(text, at, bytes[i]);
-        i += 1;
-    }
-    at
-}
 
 // A line as it is.
 pub fn put_line(line: &[u8]) {
@@ -37,37 +13,43 @@ pub fn put_line(line: &[u8]) {
     io::write_all(STDOUT_FILENO, b"\n");
 }
 
-// Hex digit `place` of a number, counted from the lowest.
-fn hex_digit(value: usize, place: usize) -> u8 {
-    let d = ((value >> (place % 16 * 4)) % 16) as u8;
+// The digit of a number, or the byte that stands for itself.
+fn symbol(kind: u8, digit: usize) -> u8 {
+    if numbers_in(kind) == 0 {
+        return kind;
+    }
+    let d = (digit % 16) as u8;
     if d < 10 { b'0' + d } else { b'A' + (d - 10) }
 }
 
-// The lowest `digits` hex digits of a number.
-fn put_hex(text: &mut [u8], start: usize, value: usize, digits: usize) -> usize {
-    let mut at = start;
-    let mut left = digits;
-    while left > 0 {
-        left -= 1;
-        at = put(text, at, hex_digit(value, left));
+// Whether `count` digits are all, where `rest` is what they leave of the number.
+fn is_whole(kind: u8, count: usize, rest: usize) -> bool {
+    match kind {
+        b'd' => rest == 0,
+        b'w' => count == 8,
+        b'f' => count == 16,
+        _ => true,
+    }
+}
+
+// Stores the byte or the number that `kind` stands for before `end`, the last digit first, and
+// answers where it starts.
+fn put_field(text: &mut [u8], end: usize, kind: u8, value: usize) -> usize
+    requires { ⌜ end ≤ length (now text) ⌝ }
+    ensures { λ r. ⌜ r ≤ end ⌝ }
+{
+    let base = base_of(kind);
+    let mut rest = value;
+    let mut at = end;
+    while at > 0 {
+        at -= 1;
+        text[at] = symbol(kind, rest % base);
+        rest /= base;
+        if is_whole(kind, end - at, rest) {
+            return at;
+        }
     }
     at
-}
-
-fn put_decimal(text: &mut [u8], at: usize, value: usize) -> usize {
-    let mut digits = [0u8; 20];
-    let count = io::decimal(value as u64, &mut digits);
-    put_all(text, at, &digits[..count])
-}
-
-// The byte or the number that `kind` stands for.
-fn put_field(text: &mut [u8], at: usize, kind: u8, value: usize) -> usize {
-    match kind {
-        b'd' => put_decimal(text, at, value),
-        b'w' => put_hex(text, at, value, 8),
-        b'f' => put_hex(text, at, value, 16),
-        _ => put(text, at, kind),
-    }
 }
 
 // The value at `k`, and 0 past the end.
@@ -75,25 +57,27 @@ fn value_at(values: &[usize], k: usize) -> usize {
     if k < values.len() { values[k] } else { 0 }
 }
 
-// Fills the text with the values by a form, and answers how far.
-fn filled(text: &mut [u8], form: &[u8], values: &[usize]) -> usize {
-    let mut at = 0;
-    let mut k = 0;
-    let mut i = 0;
-    while i < form.len() {
+// Stores a line of values by a form at the end of the text, and answers where it starts.
+fn filled(text: &mut [u8], form: &[u8], values: &[usize]) -> usize
+    ensures { λ r. ⌜ r ≤ length (now (text .entry)) ⌝ }
+{
+    let mut at = text.len();
+    let mut k = values.len();
+    let mut i = form.len();
+    while i > 0 {
+        i -= 1;
         let b = form[i];
+        k -= smaller(k, numbers_in(b));
         at = put_field(text, at, b, value_at(values, k));
-        k += numbers_in(b);
-        i += 1;
     }
     at
 }
 
-// A line of values by a form. The longest line, that of `Z`, has 169 bytes.
+// Values by a form. The longest, that of `Z`, has 151 bytes.
 pub fn put_form(form: &[u8], values: &[usize]) {
     let mut text = [0u8; 256];
-    let end = filled(&mut text, form, values);
-    flush(&text, end);
+    let at = filled(&mut text, form, values);
+    io::write_all(STDOUT_FILENO, &text[at..]);
 }
 
 // A refusal.

@@ -1,37 +1,40 @@
 -- `replay::print::filled` is safe and ends. The invariant bounds what is read and keeps the lengths of what is lent. Assumes nothing.
 use mathlib.Core.Path.{_≡_}
-use Prim.Native.Nat.{_-_, _≤_}
+use Prim.Native.Nat.{_≤_}
 use lib.ListN.{length}
 use borrow.Author.Needs.{needs}
 use Rattle.replay.proofs.print.filled.Statement.{statement}
 use Rattle.replay.proofs.print.filled.Tie as tie
 
 abbrev Inv-loop : tie.InvT-loop
-Inv-loop text₀ form values at₀ k₀ i₀ text at k i = (i ≤ length form) × (k ≤ i) × (length text ≡ length text₀)
+Inv-loop text₀ form values at₀ k₀ i₀ text at k i = (at ≤ length text₀) × (k ≤ length values) × (i ≤ length form) × (length text ≡ length text₀)
 
 abbrev μ-loop : tie.MeasureT-loop
-μ-loop text₀ form values at₀ k₀ i₀ text at k i = length form - i
+μ-loop text₀ form values at₀ k₀ i₀ text at k i = i
 
 loop-holds : tie.Need-loop-holds Inv-loop μ-loop
 loop-holds c = search needs
 
+sub-i : tie.Need-sub-i Inv-loop μ-loop
+sub-i c = search needs
+
 shared-slice-read-b : tie.Need-shared-slice-read-b Inv-loop μ-loop
 shared-slice-read-b c = search needs
+
+numbers-in-requires : tie.Need-numbers-in-requires Inv-loop μ-loop
+numbers-in-requires c κs = search needs
+
+smaller-requires : tie.Need-smaller-requires Inv-loop μ-loop
+smaller-requires c κs = search needs
+
+sub-k : tie.Need-sub-k Inv-loop μ-loop
+sub-k c = search needs
 
 value-at-requires : tie.Need-value-at-requires Inv-loop μ-loop
 value-at-requires c κs = search needs
 
 put-field-requires : tie.Need-put-field-requires Inv-loop μ-loop
 put-field-requires c κs = search needs
-
-numbers-in-requires : tie.Need-numbers-in-requires Inv-loop μ-loop
-numbers-in-requires c κs = search needs
-
-add-k : tie.Need-add-k Inv-loop μ-loop
-add-k c = search needs
-
-add-i : tie.Need-add-i Inv-loop μ-loop
-add-i c = search needs
 
 loop-less : tie.Need-loop-less Inv-loop μ-loop
 loop-less c = search needs
@@ -52,12 +55,13 @@ filled-spec =
     Inv-loop
     μ-loop
     loop-holds
+    sub-i
     shared-slice-read-b
+    numbers-in-requires
+    smaller-requires
+    sub-k
     value-at-requires
     put-field-requires
-    numbers-in-requires
-    add-k
-    add-i
     loop-less
     loop-again
     same-length
