@@ -46,7 +46,7 @@ fn behind(begun: usize, len: usize) -> usize
 
 // Reads a piece of input behind the line that is begun at from..to. Its first line is next.
 fn refilled(piece: &mut [u8], from: usize, to: usize) -> Reading
-    ensures { λ r. ⌜ (r .from ≤ r .end) × (r .end ≤ length (now (piece .entry))) ⌝ }
+    ensures { λ r. ⌜ (r .from ≤ r .end) × (r .end ≤ r .to) × (r .to ≤ length (now (piece .entry))) ⌝ }
 {
     let begun = moved(piece, from, to);
     let kept = behind(begun, piece.len());
@@ -61,10 +61,11 @@ fn refilled(piece: &mut [u8], from: usize, to: usize) -> Reading
 
 // The line after this one.
 fn next(r: Reading, piece: &mut [u8]) -> Reading
-    ensures { λ n. ⌜ (n .from ≤ n .end) × (n .end ≤ length (now (piece .entry))) ⌝ }
+    requires { ⌜ (r .end ≤ r .to) × (r .to ≤ length (now piece)) ⌝ }
+    ensures { λ n. ⌜ (n .from ≤ n .end) × (n .end ≤ n .to) × (n .to ≤ length (now (piece .entry))) ⌝ }
 {
-    let to = smaller(r.to, piece.len());
-    let from = smaller(smaller(r.end, to) + 1, to);
+    let to = r.to;
+    let from = smaller(r.end + 1, to);
     let end = line_end(piece, from, to);
     if end < to || to < piece.len() {
         return Reading { from, end, to };

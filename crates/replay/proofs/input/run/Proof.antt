@@ -8,7 +8,7 @@ use Rattle.replay.proofs.input.run.Statement.{statement}
 use Rattle.replay.proofs.input.run.Tie as tie
 
 abbrev Inv-loop : tie.InvT-loop
-Inv-loop piece₀ clip₀ words₀ first₀ m₀ order₀ r₀ turns₀ piece clip words first m order r turns = (r .from ≤ r .end) × (r .end ≤ length piece₀) × (length piece ≡ length piece₀) × (length clip ≡ length clip₀) × (length words ≡ length words₀) × (length first ≡ length first₀)
+Inv-loop piece₀ clip₀ words₀ first₀ m₀ order₀ r₀ turns₀ piece clip words first m order r turns = (r .from ≤ r .end) × (r .end ≤ r .to) × (r .to ≤ length piece₀) × (length piece ≡ length piece₀) × (length clip ≡ length clip₀) × (length words ≡ length words₀) × (length first ≡ length first₀)
 
 abbrev μ-loop : tie.MeasureT-loop
 μ-loop piece₀ clip₀ words₀ first₀ m₀ order₀ r₀ turns₀ piece clip words first m order r turns = turns
@@ -41,7 +41,7 @@ obeyed-requires : tie.Need-obeyed-requires Inv-loop μ-loop
 obeyed-requires c κs = search needs
 
 next-requires : tie.Need-next-requires Inv-loop μ-loop
-next-requires c κs = search needs
+next-requires c κs = omega (arith, c .before .before .before .before .before .before .before .before .before .before .before .before .before .before .before .before .before .before .loop .inv)
 
 loop-less : tie.Need-loop-less Inv-loop μ-loop
 loop-less c = omega (arith, c .before .before .before .before .before .before .before .before .before .before)
