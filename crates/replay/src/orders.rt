@@ -13,7 +13,8 @@ use super::scan::value;
 use super::scan::word_end;
 
 // The kinds of order, in the order of the table in `order_of`: those that tell the player something,
-// the blocks, and those that leave the player alone.
+// the blocks, and those that leave the player alone. A pattern names a kind by its number,
+// since it takes no constant.
 pub const RATE: usize = 0;
 
 pub const START: usize = 1;

@@ -1,4 +1,4 @@
--- `replay::print::filled` is safe and ends. The invariant bounds what is read and keeps the lengths of what is lent. Assumes nothing.
+-- `replay::print::filled` is safe and ends and meets its contract. The invariant bounds what is read and keeps the lengths of what is lent. Assumes nothing.
 use mathlib.Core.Path.{_≡_}
 use Prim.Native.Nat.{_≤_}
 use lib.ListN.{length}
