@@ -1,13 +1,11 @@
 // The lines that the player obeys.
-use super::calls::copy_words;
 use super::orders::BLOCK;
 use super::orders::BLOCK_SAMPLES;
 use super::orders::CLIP;
-use super::orders::Order;
 use super::orders::RATE;
-use super::orders::SHOW;
 use super::print::put_channels;
 use super::print::put_form;
+use super::print::put_line;
 use super::print::put_refusal;
 use super::scan::Numbers;
 use super::scan::f32_of;
@@ -21,33 +19,31 @@ use player::Rendered;
 
 const OUTPUT: usize = 4_096;
 
-// The player, whether an `R` line made it, and its clip's length; how far the text is filled.
+// The player, whether an `R` line made it, and its clip's length.
 pub struct Machine {
     pub player: Player,
     pub made: bool,
     pub clip: usize,
-    pub at: usize,
 }
 
 fn message(due: usize, n: Numbers) -> ControlMessage {
     let x = f64_of(n.a);
     match due {
-        5 => ControlMessage::Start(x, f64_of(n.b), f64_of(n.c)),
-        6 => ControlMessage::Stop(x),
-        7 => ControlMessage::LoopStart(x),
-        8 => ControlMessage::LoopEnd(x),
-        9 => ControlMessage::Loop(false),
+        1 => ControlMessage::Start(x, f64_of(n.b), f64_of(n.c)),
+        2 => ControlMessage::Stop(x),
+        3 => ControlMessage::LoopStart(x),
+        4 => ControlMessage::LoopEnd(x),
+        5 => ControlMessage::Loop(false),
         _ => ControlMessage::Loop(true),
     }
 }
 
-// The player after a message, a clip or an `R` line; any other order leaves it alone.
+// The player after a message, a clip or an `R` line.
 fn handled(player: Player, due: usize, n: Numbers, words: &[u32]) -> Handled {
     match due {
         0 => Player::new(f32_of(n.a)),
-        5..=10 => player.handle_control_message(message(due, n)),
-        11 => player.set_buffer(n.a, n.b, f32_of(n.c), words),
-        _ => Handled::Done(player),
+        7 => player.set_buffer(n.a, n.b, f32_of(n.c), words),
+        _ => player.handle_control_message(message(due, n)),
     }
 }
 
@@ -57,7 +53,7 @@ fn kept(due: usize, before: usize, words: &[u32], clip: &mut [u32]) -> usize {
         return 0;
     }
     if due == CLIP {
-        copy_words(words, clip);
+        frames::copy_frames(clip, words);
         return words.len();
     }
     before
@@ -69,29 +65,22 @@ fn is_made(due: usize, before: bool, accepted: bool) -> bool {
 }
 
 // Messages, clips and `R` lines.
-pub fn told(
-    m: Machine,
-    at: usize,
-    order: Order,
-    text: &mut [u8],
-    words: &[u32],
-    clip: &mut [u32],
-) -> Machine {
+pub fn told(m: Machine, due: usize, n: Numbers, words: &[u32], clip: &mut [u32]) -> Machine {
     let player = m.player;
-    let n = order.n;
-    match handled(player, order.due, n, words) {
+    match handled(player, due, n, words) {
         Handled::Done(next) => Machine {
             player: next,
-            made: is_made(order.due, m.made, true),
-            clip: kept(order.due, m.clip, words, clip),
-            at,
+            made: is_made(due, m.made, true),
+            clip: kept(due, m.clip, words, clip),
         },
-        Handled::Refused(number) => Machine {
-            player,
-            made: is_made(order.due, m.made, false),
-            clip: m.clip,
-            at: put_refusal(text, at, number),
-        },
+        Handled::Refused(number) => {
+            put_refusal(number);
+            Machine {
+                player,
+                made: is_made(due, m.made, false),
+                clip: m.clip,
+            }
+        }
     }
 }
 
@@ -103,81 +92,60 @@ fn pattern(x: f64) -> usize {
     rounding::to_pattern_f64(x) as usize
 }
 
-fn put_report(text: &mut [u8], at: usize, report: BlockReport, out: &[u32]) -> usize {
+fn put_report(report: BlockReport, out: &[u32]) {
     let values = [
         bit(report.keep_alive),
         bit(report.ended),
         report.channels,
         pattern(report.position.0),
     ];
-    let after = put_form(text, at, b"B d d d f\n", &values);
-    put_channels(text, after, report.channels, 128, out)
+    put_form(b"B d d d f\n", &values);
+    put_channels(report.channels, 128, out)
 }
 
 // The player that a block left, and the block printed.
-fn reported(m: Machine, answer: Rendered, text: &mut [u8], out: &[u32]) -> Machine {
+fn reported(player: Player, answer: Rendered, out: &[u32]) -> Player {
     match answer {
         Rendered::Refused(number) => {
-            let player = m.player;
-            Machine {
-                player,
-                made: true,
-                clip: m.clip,
-                at: put_refusal(text, m.at, number),
-            }
+            put_refusal(number);
+            player
         }
         Rendered::Block(report) => {
-            let player = report.player;
-            Machine {
-                player,
-                made: true,
-                clip: m.clip,
-                at: put_report(text, m.at, report, out),
-            }
+            put_report(report, out);
+            report.player
         }
     }
-}
-
-// Renders a block into `out`.
-fn rendered(m: Machine, n: Numbers, text: &mut [u8], samples: &[u32], out: &mut [u32]) -> Machine {
-    let player = m.player;
-    let answer = player.process(out, samples, f64_of(n.a), f32_of(n.b), f64_of(n.c));
-    reported(m, answer, text, out)
 }
 
 // The length of the output that is lent, and below of the samples, where the line names them.
-fn output_length(order: Order) -> usize {
-    if order.due == BLOCK {
-        OUTPUT
-    } else {
-        order.n.d
-    }
+fn output_length(due: usize, n: Numbers) -> usize {
+    if due == BLOCK { OUTPUT } else { n.d }
 }
 
-fn samples_length(order: Order, clip: usize) -> usize {
-    if order.due == BLOCK_SAMPLES {
-        order.n.e
-    } else {
-        clip
-    }
+fn samples_length(due: usize, n: Numbers, clip: usize) -> usize {
+    if due == BLOCK_SAMPLES { n.e } else { clip }
 }
 
 // `B` lines.
-pub fn block(m: Machine, order: Order, text: &mut [u8], clip: &[u32], out: &mut [u32]) -> Machine {
-    let due = order.due;
-    match due {
-        2..=4 => {
-            let n = order.n;
-            let j = smaller(output_length(order), out.len());
-            let k = smaller(samples_length(order, m.clip), clip.len());
-            rendered(m, n, text, &clip[..k], &mut out[..j])
-        }
-        _ => m,
+pub fn block(m: Machine, due: usize, n: Numbers, clip: &[u32], out: &mut [u32]) -> Machine {
+    let j = smaller(output_length(due, n), out.len());
+    let k = smaller(samples_length(due, n, m.clip), clip.len());
+    let answer = m.player.process(
+        &mut out[..j],
+        &clip[..k],
+        f64_of(n.a),
+        f32_of(n.b),
+        f64_of(n.c),
+    );
+    Machine {
+        player: reported(m.player, answer, out),
+        made: true,
+        clip: m.clip,
     }
 }
 
-// The player's numbers, as `Z` prints them.
-fn state(p: Player) -> [usize; 16] {
+// The player's numbers, as `Z` prints them, but for the last.
+fn state(p: Player) -> [usize; 15] {
     [
         pattern(p.start_time.0),
         pattern(p.stop_time.0),
@@ -194,18 +162,15 @@ fn state(p: Player) -> [usize; 16] {
         bit(p.render_state.ended),
         bit(p.has_start),
         bit(p.has_buffer),
-        pattern(p.block_time.0),
     ]
 }
 
 // `Z` lines.
-pub fn shown(text: &mut [u8], at: usize, due: usize, player: Player) -> usize {
-    if due != SHOW {
-        return at;
-    }
+pub fn shown(player: Player) {
     let values = state(player);
+    put_form(b"Z f f f f d f f f d d f d d d d", &values);
     if player.has_block {
-        return put_form(text, at, b"Z f f f f d f f f d d f d d d d f\n", &values);
+        return put_form(b" f\n", &[pattern(player.block_time.0)]);
     }
-    put_form(text, at, b"Z f f f f d f f f d d f d d d d none\n", &values)
+    put_line(b" none")
 }

@@ -1,6 +1,8 @@
 // A line of input as an order: what it asks for, its numbers, and the words that it waits for.
 ghost use Prim.Native.Nat.{_+_, _*_, _<_, _≤_};
 ghost use lib.ListN.{length};
+use super::print::put_line;
+use super::print::put_refusal;
 use super::scan::Known;
 use super::scan::Numbers;
 use super::scan::bits_of;
@@ -10,30 +12,32 @@ use super::scan::smaller;
 use super::scan::value;
 use super::scan::word_end;
 
-// The kinds of order, in the order of the table in `order_of`.
+// The kinds of order, in the order of the table in `order_of`: those that tell the player something,
+// the blocks, and those that leave the player alone. A pattern names a kind by its number,
+// since it takes no constant.
 pub const RATE: usize = 0;
 
-pub const SHOW: usize = 1;
+pub const START: usize = 1;
 
-pub const BLOCK: usize = 2;
+pub const STOP: usize = 2;
 
-pub const BLOCK_OUTPUT: usize = 3;
+pub const LOOP_START: usize = 3;
 
-pub const BLOCK_SAMPLES: usize = 4;
+pub const LOOP_END: usize = 4;
 
-pub const START: usize = 5;
+pub const LOOP_OFF: usize = 5;
 
-pub const STOP: usize = 6;
+pub const LOOP_ON: usize = 6;
 
-pub const LOOP_START: usize = 7;
+pub const CLIP: usize = 7;
 
-pub const LOOP_END: usize = 8;
+pub const BLOCK: usize = 8;
 
-pub const LOOP_OFF: usize = 9;
+pub const BLOCK_OUTPUT: usize = 9;
 
-pub const LOOP_ON: usize = 10;
+pub const BLOCK_SAMPLES: usize = 10;
 
-pub const CLIP: usize = 11;
+pub const SHOW: usize = 11;
 
 pub const COPY_FROM: usize = 12;
 
@@ -45,15 +49,13 @@ pub const SPLIT: usize = 15;
 
 pub const CONVERT: usize = 16;
 
-// A line that is none of these; a call whose shape is outside the limits; a line that is printed;
-// a call whose words are not all there.
+// A line that is none of these; a call whose shape is outside the limits; a call whose words are
+// not all there, or nothing.
 pub const UNKNOWN: usize = 17;
 
 pub const BAD_SHAPE: usize = 18;
 
-pub const COMMENT: usize = 19;
-
-pub const WAITING: usize = 20;
+pub const WAITING: usize = 19;
 
 // The room for a copy's destination; the protocol allows 16,777,216.
 const LEN_MAX: usize = 262_144;
@@ -63,14 +65,11 @@ const OUTPUT_MAX: usize = 65_536;
 // The size of a shape outside the limits.
 const NO_SIZE: usize = 2_000_000_000;
 
-// An order; `due` is its kind once its words are all there. `dropped` tells that it came while
-// another one waited for words.
+// An order, the words that it waits for, and how many of them are there.
 pub struct Order {
     pub kind: usize,
-    pub due: usize,
     pub wanted: usize,
     pub got: usize,
-    pub dropped: bool,
     pub n: Numbers,
 }
 
@@ -93,7 +92,7 @@ pub fn size(channels: usize, frames: usize) -> usize
 // The words that an order waits for.
 fn wanted(kind: usize, n: Numbers) -> usize {
     match kind {
-        11 | 12 | 15 | 16 => size(n.a, n.b),
+        7 | 12 | 15 | 16 => size(n.a, n.b),
         13 => size(n.a, n.b) + smaller(n.e, LEN_MAX),
         14 => size(n.a, n.b) + size(n.d, n.e),
         _ => 0,
@@ -103,8 +102,8 @@ fn wanted(kind: usize, n: Numbers) -> usize {
 // Whether a length that the line names is above its bound.
 fn is_too_long(kind: usize, n: Numbers, room: usize) -> bool {
     match kind {
-        3 => n.d > OUTPUT_MAX,
-        4 => n.d > OUTPUT_MAX || n.e > room,
+        9 => n.d > OUTPUT_MAX,
+        10 => n.d > OUTPUT_MAX || n.e > room,
         12 | 13 => n.e > LEN_MAX,
         _ => false,
     }
@@ -113,7 +112,7 @@ fn is_too_long(kind: usize, n: Numbers, room: usize) -> bool {
 // The kind that is obeyed: one that needs a player is unknown without it, and so is what has no
 // room.
 fn admitted(kind: usize, n: Numbers, made: bool, room: usize) -> usize {
-    if kind >= SHOW && kind <= CLIP && !made {
+    if kind >= START && kind <= SHOW && !made {
         return UNKNOWN;
     }
     if is_too_long(kind, n, room) {
@@ -172,38 +171,33 @@ fn matched(line: &[u8], forms: &[u8]) -> Known {
 fn order_of(line: &[u8]) -> Known {
     matched(
         line,
-        b"R w\nZ\nB f w f\nB f w f d\nB f w f d d\nS f f f\nT f\nP f\nE f\nL 0\nL 1\nC d d w\nKF d d d d d\nKT d d d d d\nJ d d w d d w\nV d d w d\nQ d d w w\n",
+        b"R w\nS f f f\nT f\nP f\nE f\nL 0\nL 1\nC d d w\nB f w f\nB f w f d\nB f w f d d\nZ\nKF d d d d d\nKT d d d d d\nJ d d w d d w\nV d d w d\nQ d d w w\n",
     )
 }
 
-fn is_comment(line: &[u8]) -> bool {
-    if line.len() > 0 {
-        line[0] == b'#'
+// The kind of an order once its words are all there.
+pub fn due(order: Order) -> usize {
+    if order.got < order.wanted {
+        WAITING
     } else {
-        false
+        order.kind
     }
 }
 
-fn due(kind: usize, wanted: usize, got: usize) -> usize {
-    if got < wanted { WAITING } else { kind }
-}
-
-// A new order.
-fn begun(line: &[u8], made: bool, room: usize, dropped: bool) -> Order {
+// A new order. A comment is printed, and asks for nothing.
+fn begun(line: &[u8], made: bool, room: usize) -> Order {
+    if word_end(line, 0, b'#') > 0 {
+        put_line(line);
+        return nothing();
+    }
     let known = order_of(line);
     let n = known.n;
-    let kind = if is_comment(line) {
-        COMMENT
-    } else {
-        admitted(known.kind, n, made, room)
-    };
+    let kind = admitted(known.kind, n, made, room);
     let wanted = wanted(kind, n);
     Order {
         kind,
-        due: due(kind, wanted, 0),
         wanted,
         got: 0,
-        dropped,
         n,
     }
 }
@@ -232,18 +226,24 @@ fn stored(line: &[u8], room: &mut [u32]) -> usize {
     0
 }
 
+// `X 0` for a call that is given up.
+fn put_dropped(order: Order) {
+    if order.got < order.wanted {
+        put_refusal(0);
+    }
+}
+
 // The order after a line: the waiting one with more words, or a new one.
 pub fn heard(order: Order, line: &[u8], made: bool, words: &mut [u32]) -> Order {
     let to = smaller(order.wanted, words.len());
     let from = smaller(order.got, to);
     let count = stored(line, &mut words[from..to]);
     if count == 0 {
-        return begun(line, made, words.len(), order.got < order.wanted);
+        put_dropped(order);
+        return begun(line, made, words.len());
     }
     let mut next = order;
     next.got = from + smaller(count, to - from);
-    next.due = due(next.kind, next.wanted, next.got);
-    next.dropped = false;
     next
 }
 
@@ -251,10 +251,8 @@ pub fn heard(order: Order, line: &[u8], made: bool, words: &mut [u32]) -> Order 
 pub fn nothing() -> Order {
     Order {
         kind: WAITING,
-        due: WAITING,
         wanted: 0,
         got: 0,
-        dropped: false,
         n: no_numbers(),
     }
 }

@@ -35,6 +35,13 @@ pub fn numbers_in(kind: u8) -> usize
     }
 }
 
+// The base of a number of this kind.
+pub fn base_of(kind: u8) -> usize
+    ensures { λ r. ⌜ 0 < r ⌝ }
+{
+    if kind == b'd' { 10 } else { 16 }
+}
+
 // The value of an upper-case hex digit, or 16.
 fn digit(c: u8) -> usize
     ensures { λ r. ⌜ r ≤ 16 ⌝ }
@@ -78,7 +85,7 @@ pub fn word_end(line: &[u8], at: usize, kind: u8) -> usize
     if numbers_in(kind) == 0 {
         return byte_end(line, at, kind);
     }
-    let end = digits_end(line, at, if kind == b'd' { 10 } else { 16 });
+    let end = digits_end(line, at, base_of(kind));
     if has_digits(kind, end - at) { end } else { at }
 }
 
@@ -152,12 +159,13 @@ pub fn read(line: &[u8], form: &[u8], kind: usize, other: usize) -> Known {
     let mut at = 0;
     let mut i = 0;
     while i < form.len() {
-        let end = word_end(line, at, form[i]);
+        let b = form[i];
+        let end = word_end(line, at, b);
         if end == at {
             return Known { kind: other, n };
         }
-        n = with_number(n, k, value(&line[at..end], form[i]));
-        k += numbers_in(form[i]);
+        n = with_number(n, k, value(&line[at..end], b));
+        k += numbers_in(b);
         at = end;
         i += 1;
     }

@@ -1,7 +1,6 @@
 -- `replay::calls::parted` is safe and ends. Assumes nothing.
 use mathlib.Core.Path.{sym}
 use native.Mathlib.Omega.{arith}
-use lib.ListN.{length}
 use lib.Seq.{length-take-le}
 use borrow.Author.Needs.{needs}
 use Rattle.replay.proofs.calls.parted.Statement.{statement}
@@ -37,9 +36,6 @@ same-length c = search needs
 same-length-2 : tie.Need-same-length-2
 same-length-2 c = search needs
 
-same-length-3 : tie.Need-same-length-3
-same-length-3 c = search needs
-
 returns : tie.Need-returns
 returns c = search needs
 
@@ -57,5 +53,4 @@ parted-spec =
     put-parted-requires
     same-length
     same-length-2
-    same-length-3
     returns)

@@ -19,32 +19,35 @@ samples-length-requires c κs = search needs
 smaller-requires-2 : tie.Need-smaller-requires-2
 smaller-requires-2 c κs = search needs
 
-slice-aggregate-rendered : tie.Need-slice-aggregate-rendered
-slice-aggregate-rendered c = sym (length-take-le _ _ (omega arith))
+slice-relend-prefix-process : tie.Need-slice-relend-prefix-process
+slice-relend-prefix-process c = search needs
 
-slice-relend-prefix-rendered : tie.Need-slice-relend-prefix-rendered
-slice-relend-prefix-rendered c = search needs
+slice-aggregate-process : tie.Need-slice-aggregate-process
+slice-aggregate-process c = sym (length-take-le _ _ (omega arith))
 
-slice-aggregate-rendered-2 : tie.Need-slice-aggregate-rendered-2
-slice-aggregate-rendered-2 c = sym (length-take-le _ _ (omega arith))
+slice-aggregate-process-2 : tie.Need-slice-aggregate-process-2
+slice-aggregate-process-2 c = sym (length-take-le _ _ (omega arith))
 
-rendered-requires : tie.Need-rendered-requires
-rendered-requires c κs = search needs
+f64-of-requires : tie.Need-f64-of-requires
+f64-of-requires c κs = search needs
+
+f32-of-requires : tie.Need-f32-of-requires
+f32-of-requires c κs = search needs
+
+f64-of-requires-2 : tie.Need-f64-of-requires-2
+f64-of-requires-2 c κs = search needs
+
+process-requires : tie.Need-process-requires
+process-requires c κs = search needs
+
+reported-requires : tie.Need-reported-requires
+reported-requires c κs = search needs
 
 same-length : tie.Need-same-length
 same-length c = search needs
 
-same-length-2 : tie.Need-same-length-2
-same-length-2 c = search needs
-
 returns : tie.Need-returns
 returns c = search needs
-
-returns-2 : tie.Need-returns-2
-returns-2 c = search needs
-
-returns-3 : tie.Need-returns-3
-returns-3 c = search needs
 
 pub block-spec : {M : Type 1} → statement M
 block-spec =
@@ -54,12 +57,13 @@ block-spec =
     smaller-requires
     samples-length-requires
     smaller-requires-2
-    slice-aggregate-rendered
-    slice-relend-prefix-rendered
-    slice-aggregate-rendered-2
-    rendered-requires
+    slice-relend-prefix-process
+    slice-aggregate-process
+    slice-aggregate-process-2
+    f64-of-requires
+    f32-of-requires
+    f64-of-requires-2
+    process-requires
+    reported-requires
     same-length
-    same-length-2
-    returns
-    returns-2
-    returns-3)
+    returns)

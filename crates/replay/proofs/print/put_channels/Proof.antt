@@ -1,5 +1,4 @@
 -- `replay::print::put_channels` is safe and ends. The invariant bounds what is read and keeps the lengths of what is lent. Assumes nothing.
-use mathlib.Core.Path.{_≡_}
 use Prim.Native.Nat.{_-_, _≤_}
 use lib.ListN.{length}
 use borrow.Author.Needs.{needs}
@@ -7,10 +6,10 @@ use Rattle.replay.proofs.print.put_channels.Statement.{statement}
 use Rattle.replay.proofs.print.put_channels.Tie as tie
 
 abbrev Inv-loop : tie.InvT-loop
-Inv-loop text₀ start count frames words at₀ from₀ c₀ text at from c = (from ≤ length words) × (c ≤ count) × (length text ≡ length text₀)
+Inv-loop count frames words from₀ c₀ from c = (from ≤ length words) × (c ≤ count)
 
 abbrev μ-loop : tie.MeasureT-loop
-μ-loop text₀ start count frames words at₀ from₀ c₀ text at from c = count - c
+μ-loop count frames words from₀ c₀ from c = count - c
 
 loop-holds : tie.Need-loop-holds Inv-loop μ-loop
 loop-holds c = search needs
@@ -48,9 +47,6 @@ loop-less c = search needs
 loop-again : tie.Need-loop-again Inv-loop μ-loop
 loop-again c = search needs
 
-same-length : tie.Need-same-length Inv-loop μ-loop
-same-length c = search needs
-
 returns : tie.Need-returns Inv-loop μ-loop
 returns c = search needs
 
@@ -72,5 +68,4 @@ put-channels-spec =
     add-c
     loop-less
     loop-again
-    same-length
     returns)

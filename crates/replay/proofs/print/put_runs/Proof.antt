@@ -1,5 +1,4 @@
 -- `replay::print::put_runs` is safe and ends. The invariant bounds what is read and keeps the lengths of what is lent. Assumes nothing.
-use mathlib.Core.Path.{_≡_}
 use Prim.Native.Nat.{_-_, _≤_}
 use lib.ListN.{length}
 use borrow.Author.Needs.{needs}
@@ -7,10 +6,10 @@ use Rattle.replay.proofs.print.put_runs.Statement.{statement}
 use Rattle.replay.proofs.print.put_runs.Tie as tie
 
 abbrev Inv-loop : tie.InvT-loop
-Inv-loop text₀ start channel words at₀ first₀ text at first = (first ≤ length words) × (length text ≡ length text₀)
+Inv-loop channel words first₀ first = first ≤ length words
 
 abbrev μ-loop : tie.MeasureT-loop
-μ-loop text₀ start channel words at₀ first₀ text at first = length words - first
+μ-loop channel words first₀ first = length words - first
 
 loop-holds : tie.Need-loop-holds Inv-loop μ-loop
 loop-holds c = search needs
@@ -36,9 +35,6 @@ loop-less c = search needs
 loop-again : tie.Need-loop-again Inv-loop μ-loop
 loop-again c = search needs
 
-same-length : tie.Need-same-length Inv-loop μ-loop
-same-length c = search needs
-
 returns : tie.Need-returns Inv-loop μ-loop
 returns c = search needs
 
@@ -56,5 +52,4 @@ put-runs-spec =
     put-run-requires
     loop-less
     loop-again
-    same-length
     returns)

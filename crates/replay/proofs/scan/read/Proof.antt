@@ -17,8 +17,8 @@ no-numbers-requires c κs = search needs
 loop-holds : tie.Need-loop-holds Inv-loop μ-loop
 loop-holds c = search needs
 
-shared-slice-read-word-end : tie.Need-shared-slice-read-word-end Inv-loop μ-loop
-shared-slice-read-word-end c = search needs
+shared-slice-read-b : tie.Need-shared-slice-read-b Inv-loop μ-loop
+shared-slice-read-b c = search needs
 
 word-end-requires : tie.Need-word-end-requires Inv-loop μ-loop
 word-end-requires c κs = search needs
@@ -35,17 +35,11 @@ part-value-start c = search needs
 part-value-end : tie.Need-part-value-end Inv-loop μ-loop
 part-value-end c = search needs
 
-shared-slice-read-value : tie.Need-shared-slice-read-value Inv-loop μ-loop
-shared-slice-read-value c = search needs
-
 value-requires : tie.Need-value-requires Inv-loop μ-loop
 value-requires c κs = search needs
 
 with-number-requires : tie.Need-with-number-requires Inv-loop μ-loop
 with-number-requires c κs = search needs
-
-shared-slice-read-numbers-in : tie.Need-shared-slice-read-numbers-in Inv-loop μ-loop
-shared-slice-read-numbers-in c = search needs
 
 numbers-in-requires : tie.Need-numbers-in-requires Inv-loop μ-loop
 numbers-in-requires c κs = search needs
@@ -76,16 +70,14 @@ read-spec =
     μ-loop
     no-numbers-requires
     loop-holds
-    shared-slice-read-word-end
+    shared-slice-read-b
     word-end-requires
     returns
     sub-value
     part-value-start
     part-value-end
-    shared-slice-read-value
     value-requires
     with-number-requires
-    shared-slice-read-numbers-in
     numbers-in-requires
     add-k
     add-i

@@ -1,23 +1,22 @@
--- `replay::calls::extended` is safe and ends. Assumes nothing.
+-- `replay::calls::made` is safe and ends. Assumes nothing.
 use mathlib.Core.Path.{sym}
 use native.Mathlib.Omega.{arith}
-use lib.ListN.{length}
 use lib.Seq.{length-take-le}
 use borrow.Author.Needs.{needs}
-use Rattle.replay.proofs.calls.extended.Statement.{statement}
-use Rattle.replay.proofs.calls.extended.Tie as tie
+use Rattle.replay.proofs.calls.made.Statement.{statement}
+use Rattle.replay.proofs.calls.made.Tie as tie
 
 shape-of-requires : tie.Need-shape-of-requires
 shape-of-requires c κs = search needs
-
-shape-of-requires-2 : tie.Need-shape-of-requires-2
-shape-of-requires-2 c κs = search needs
 
 size-requires : tie.Need-size-requires
 size-requires c κs = search needs
 
 smaller-requires : tie.Need-smaller-requires
 smaller-requires c κs = search needs
+
+shape-of-requires-2 : tie.Need-shape-of-requires-2
+shape-of-requires-2 c κs = search needs
 
 slice-aggregate-extend : tie.Need-slice-aggregate-extend
 slice-aggregate-extend c = sym (length-take-le _ _ (omega arith))
@@ -43,14 +42,26 @@ same-length c = search needs
 returns : tie.Need-returns
 returns c = search needs
 
-pub extended-spec : {M : Type 1} → statement M
-extended-spec =
+f32-of-requires : tie.Need-f32-of-requires
+f32-of-requires c κs = search needs
+
+convert-requires : tie.Need-convert-requires
+convert-requires c κs = search needs
+
+same-length-2 : tie.Need-same-length-2
+same-length-2 c = search needs
+
+returns-2 : tie.Need-returns-2
+returns-2 c = search needs
+
+pub made-spec : {M : Type 1} → statement M
+made-spec =
     tie.close
     (tie.spec
     shape-of-requires
-    shape-of-requires-2
     size-requires
     smaller-requires
+    shape-of-requires-2
     slice-aggregate-extend
     mul-extend
     sub-extend
@@ -58,4 +69,8 @@ extended-spec =
     part-extend-end
     extend-requires
     same-length
-    returns)
+    returns
+    f32-of-requires
+    convert-requires
+    same-length-2
+    returns-2)
