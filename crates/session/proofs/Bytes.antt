@@ -1,9 +1,8 @@
 -- A byte of the input, and bytes one after another. Assumes nothing.
 use mathlib.Core.Path.{_≡_, refl, sym, ap, _∙_}
 use mathlib.Core.Bool.{Bool, true, false, _&&_, cond, true≢false}
-use mathlib.Core.List.{List, [], _∷_, _++_, append-nil}
-use Prim.Native.Nat.{ℕ, zero, suc, _+_, _-_, _≤_, _<_, min}
-use native.Mathlib.Nat.{le-of-suc-le-suc, not-suc-le-zero}
+use mathlib.Core.List.{List, [], _∷_, _++_}
+use Prim.Native.Nat.{ℕ, _+_, _-_, _≤_, _<_, min}
 use native.Mathlib.Numerals.{add-one}
 use native.Mathlib.Omega.{arith}
 use borrow.Author.Tests.{ltb-true, ltb-false, leb-true, leb-false, le-leb, lt-leb, eq-eqb, ne-eqb}
@@ -11,7 +10,7 @@ use lib.Dec.{leb, ltb, eqb}
 use lib.ListN.{length, getD, take, drop, set, length-append, length-take, length-drop, drop-of-length-le}
 use lib.Seq.{sets, length-sets, length-take-le, take-all, take-length, drop-cons}
 use Rattle.text.specs.Lines.{NEWLINE, blockRoom}
-use Rattle.text.proofs.Stores.{sets-append}
+use Rattle.text.proofs.Stores.{sets-append, part-back}
 use Rattle.obeying.specs.declared.Session.{Session}
 use Rattle.obeying.specs.declared.Answer.{Answer}
 use Rattle.session.specs.declared.State.{State}
@@ -42,22 +41,6 @@ pub length-within : (n k : ℕ) (l : List ℕ) → n ≡ min k (length l) → n 
 length-within n k l e = sym (length-take-le n l (omega arith))
 
 -- ---- texts stored one after another
-sets-cons : (t l : List ℕ) (x i : ℕ) → sets (x ∷ l) (suc i) t ≡ x ∷ sets l i t
-sets-cons [] l x i = refl
-sets-cons (y ∷ t) l x i = sets-cons t (set l i y) x (suc i)
-
-sets-from : (l t : List ℕ) (i : ℕ) → i ≤ length l → sets l i t ≡ take i l ++ sets (drop i l) 0 t
-sets-from l t zero h = refl
-sets-from [] t (suc i) h = absurd (not-suc-le-zero h)
-sets-from (x ∷ l) t (suc i) h = sets-cons t l x i ∙ ap (λ (r : List ℕ). x ∷ r) (sets-from l t i (le-of-suc-le-suc h))
-
--- a text stored at the start of the lent rest of a slice, once the rest is back
-part-back : (out part t : List ℕ) (i : ℕ) → i ≤ length out → part ≡ sets (take (length out - i) (drop i out)) 0 t
-    → take i out ++ (part ++ drop (length out - i) (drop i out)) ≡ sets out i t
-part-back out part t i h is =
-    let left : length (drop i out) ≤ length out - i = omega (arith, length-drop i out) in
-    rw (drop-of-length-le (drop i out) {i = length out - i} left, append-nil part, is, take-all (length out - i) (drop i out) left) (sym (sets-from out t i h))
-
 -- ---- room
 pub rest-length : (out : List ℕ) (printed : ℕ) → printed + blockRoom ≤ length out → blockRoom ≤ length (take (length out - printed) (drop printed out))
 rest-length out printed h = simp (length-take, length-drop) (omega arith)

@@ -5,7 +5,7 @@ ghost use lib.Dec.{leb};
 ghost use lib.ListN.{length, getD, drop};
 ghost use lib.Seq.{sets};
 ghost use Rattle.commands.specs.Digits.{flag};
-ghost use Rattle.text.specs.Lines.{field, runLine, runs, channelLines, blockLine, blockText, refusalText, fits, printed, printedOut};
+ghost use Rattle.text.specs.Lines.{NEWLINE, field, runLine, runs, channelLines, blockLine, blockText, refusalText, fits, printed, printedOut};
 ghost use Rattle.text.specs.Same.{same};
 use super::Printed;
 use super::digits::put_decimal;
@@ -159,4 +159,15 @@ pub fn refusal_text(number: u32, out: &mut [u8]) -> Printed
     out[0] = b'X';
     out[1] = SPACE;
     Printed::Bytes(put_field(out, 2, number as usize, NEWLINE))
+}
+
+// Prints a number on a line of its own.
+pub fn number_line(v: usize, out: &mut [u8]) -> Printed
+    ensures { λ r. ⌜ (r ≡ printed (leb 21 (length (now (out .entry)))) (field v NEWLINE))
+        × (now (out .exit) ≡ printedOut (leb 21 (length (now (out .entry)))) (field v NEWLINE) (now (out .entry))) ⌝ }
+{
+    if out.len() < 21 {
+        return Printed::Refused;
+    }
+    Printed::Bytes(put_field(out, 0, v, NEWLINE))
 }
