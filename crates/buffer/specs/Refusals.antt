@@ -60,3 +60,7 @@ SPEED = 14
 -- clip: header, offsets or length differ from the layout
 abbrev pub LAYOUT : ℕ
 LAYOUT = 15
+
+-- block in cents: the cents outside −12,000 to 12,000 (document 02, 2.1)
+abbrev pub CENTS : ℕ
+CENTS = 16

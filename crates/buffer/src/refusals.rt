@@ -28,3 +28,5 @@ pub const TIME: u32 = 13;
 pub const SPEED: u32 = 14;
 
 pub const LAYOUT: u32 = 15;
+
+pub const CENTS: u32 = 16;

@@ -12,7 +12,7 @@ use Rattle.lists.specs.Table.{table}
 use Rattle.lists.specs.Parts.{put}
 use Rattle.buffer.specs.Channels.{channel}
 use Rattle.buffer.specs.Limits.{validShape, duration}
-use Rattle.buffer.specs.Refusals.{SHAPE, LENGTH, TIME, SPEED}
+use Rattle.buffer.specs.Refusals.{SHAPE, LENGTH, TIME, SPEED, CENTS}
 use Rattle.seconds.specs.Seconds.{context, inClip, never, none, one, dt, blockSeconds, blockEnd}
 use Rattle.player.specs.Record.{renderOf, moved}
 use Rattle.player.specs.Reports.{reportFrom}
@@ -174,14 +174,19 @@ badRate rate factor = not (finite rate) || not (le (fin false 1 (negsuc 63)) fac
 unfoldable pub badSamples : Player → ℕ → Bool
 badSamples p length = cond (p .«has_buffer») (not (validShape (p .shape .channels) (p .shape .frames) length)) (not (eqb length 0))
 
--- the refusal's number, and 0 for none
-unfoldable pub refusal : ℕ → Player → ℕ → ℕ → Float → Float → Float → ℕ
-refusal n p outLength samplesLength time rate factor =
+-- The checks of a block in their order: the refusal's number, and 0 for none. Those of the cents stand after 13 and before 14 (document 02, 2.1); the
+-- block call has none to check.
+abbrev pub checks : ℕ → Player → ℕ → ℕ → Float → Bool → Float → Float → ℕ
+checks n p outLength samplesLength time badCents rate factor =
     cond (not (eqb outLength (32 * n))) LENGTH
     (cond (badBlockTime p time) TIME
+    (cond badCents CENTS
     (cond (badRate rate factor) SPEED
     (cond (badSamples p samplesLength) SHAPE
-    0)))
+    0))))
+
+unfoldable pub refusal : ℕ → Player → ℕ → ℕ → Float → Float → Float → ℕ
+refusal n p outLength samplesLength time rate factor = checks n p outLength samplesLength time false rate factor
 
 -- ---- the answer, and what the output then holds
 abbrev pub reportOf : Plan → BlockReport

@@ -254,7 +254,7 @@ impl Player {
         ensures { λ r. ⌜ (r ≡ rendered 128 self (length (now (out .entry))) (length (now (samples .entry))) time rate factor)
             × (now (out .exit) ≡ output 128 self (now (out .entry)) (now (samples .entry)) time rate factor) ⌝ }
     {
-        let refusal = self.block_refusal(out.len(), samples.len(), time, rate, factor);
+        let refusal = self.block_refusal(out.len(), samples.len(), time, false, rate, factor);
         if refusal == 0 {
             return Rendered::Block(self.render(out, samples, time, rate, factor));
         }

@@ -1,6 +1,6 @@
 // The rows of the table for a block.
 ghost use mathlib.Core.Path.{_≡_};
-ghost use Rattle.player.specs.Block.{badBlockTime, badRate, badSamples, refusal};
+ghost use Rattle.player.specs.Block.{badBlockTime, badRate, badSamples, checks};
 use super::Player;
 use buffer::refusals;
 use rounding::is_finite;
@@ -57,22 +57,26 @@ impl Player {
         len != 0
     }
 
-    // The number of the refusal, and 0 for none.
-    pub(crate) fn block_refusal(
+    // The number of the refusal, and 0 for none. Cents are checked by who takes them.
+    pub fn block_refusal(
         self,
         out_len: usize,
         samples_len: usize,
         time: f64,
+        bad_cents: bool,
         rate: f32,
         factor: f64,
     ) -> u32
-        ensures { λ r. ⌜ r ≡ refusal 128 self «out_len» «samples_len» time rate factor ⌝ }
+        ensures { λ r. ⌜ r ≡ checks 128 self «out_len» «samples_len» time «bad_cents» rate factor ⌝ }
     {
         if out_len != 4096 {
             return refusals::LENGTH;
         }
         if self.is_bad_block_time(time) {
             return refusals::TIME;
+        }
+        if bad_cents {
+            return refusals::CENTS;
         }
         if is_bad_rate(rate, factor) {
             return refusals::SPEED;

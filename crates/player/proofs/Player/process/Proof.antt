@@ -47,17 +47,20 @@ block-refusal-requires : tie.Need-block-refusal-requires
 block-refusal-requires c κs = search needs
 
 render-requires : tie.Need-render-requires
+unfolding refusal
 render-requires c κs = accepted _ _ _ _ _ _ (sym (c .before .before .block-refusal .ensures) ∙ c .before .if1 .taken)
 
 same-length : tie.Need-same-length
 same-length c = search needs
 
 returns : tie.Need-returns
+unfolding refusal
 returns c =
     let e = done _ _ _ _ _ _ (sym (c .before .before .before .before .before .block-refusal .ensures) ∙ c .before .before .before .before .if1 .taken) in
     (ap Block (c .before .before .render .ensures .0) ∙ sym (e .0), c .before .before .render .ensures .1 ∙ sym (e .1))
 
 returns-2 : tie.Need-returns-2
+unfolding refusal
 returns-2 c =
     let no = c .before .block-refusal .ensures in
     let e = refused _ _ _ _ _ _ (rw no at (c .if1 .left)) in
