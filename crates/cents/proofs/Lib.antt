@@ -1,0 +1,2 @@
+-- The laws that the proofs of `cents` share.
+pub mod Same

@@ -1,0 +1,2 @@
+-- What the contracts of `cents` cite: the block call in cents.
+pub mod Cents
