@@ -1,4 +1,4 @@
--- The road to the long-run statement.
+-- The road to the long-run statement, and blocks in cents.
 pub mod Order
 pub mod Units
 pub mod Position
@@ -15,3 +15,4 @@ pub mod Events
 pub mod Run
 pub mod Conclude
 pub mod Whole
+pub mod Longer

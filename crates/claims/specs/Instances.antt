@@ -1,10 +1,10 @@
--- Lists of calls that meet the premises of the long-run statement. Definitions only.
+-- Lists of calls that meet the premises of the long-run statement, and one with blocks in cents. Definitions only.
 use mathlib.Core.Path.{_≡_}
 use mathlib.Core.Bool.{Bool, true, false}
 use mathlib.Core.List.{List, [], _∷_}
-use Prim.Native.Nat.{ℕ}
+use Prim.Native.Nat.{ℕ, _+_}
 use lib.Dec.{T}
-use lib.IntN.{pos, negsuc}
+use lib.IntN.{ℤ, pos, negsuc}
 use lib.ListN.{length, replicate}
 use lib.Ieee.{Float, fin, binary32, fits}
 use Rattle.buffer.specs.Limits.{validRate}
@@ -13,6 +13,7 @@ use Rattle.player.specs.Record.{fresh}
 use Rattle.player.specs.declared.ControlMessage.the-variants.{Start, Stop, Loop}
 use Rattle.claims.specs.Calls.{Call, buffer, message, block, allTyped, accepted, playing}
 use Rattle.claims.specs.LongRun.{Premises}
+use Rattle.claims.specs.Longer.{LongerCall, plain, inCents, allTypedLonger, replaced}
 
 -- 48,000 = 375 × 2 ^ 7, and three frames: 1.0, 2.0, 3.0
 abbrev pub rate : Float
@@ -48,6 +49,17 @@ plainCalls = start ∷ clip ∷ blockAt none ∷ blockAt tick ∷ []
 abbrev pub stoppedCalls : List Call
 stoppedCalls = start ∷ message (Stop tick) ∷ clip ∷ blockAt none ∷ blockAt tick ∷ blockAt tock ∷ []
 
+-- a block in cents
+abbrev pub centsAt : Float → ℤ → LongerCall
+centsAt time cents = inCents (replicate 4096 7) frames time one cents
+
+-- Of its blocks in cents two are accepted, and two are refused, so left out: by 16 for 12,001 cents, and by 13 at the last block's time. The plain block
+-- at that time is refused too, and stays.
+abbrev pub longerCalls : List LongerCall
+longerCalls =
+    plain start ∷ plain clip ∷ plain (message (Loop true)) ∷ centsAt none (pos 0) ∷ centsAt tick (pos 12001) ∷ centsAt none (pos 0)
+    ∷ plain (blockAt none) ∷ centsAt tick (pos 0) ∷ []
+
 -- the premises are met, and this many blocks are accepted
 pub record Met (calls : List Call) (blocks : ℕ) : Type 0 where
   pub single : T (fits binary32 rate)
@@ -56,5 +68,11 @@ pub record Met (calls : List Call) (blocks : ℕ) : Type 0 where
   pub premises : Premises rate (accepted (fresh rate) calls)
   pub played : length (playing (accepted (fresh rate) calls)) ≡ blocks
 
+-- the premises of `longRun` for longer lists are met: this many calls are left out, and this many blocks are accepted
+pub record MetLonger (calls : List LongerCall) (left blocks : ℕ) : Type 0 where
+  pub typed : T (allTypedLonger calls)
+  pub leftOut : length calls ≡ left + length (replaced (fresh rate) calls)
+  pub met : Met (replaced (fresh rate) calls) blocks
+
 abbrev pub Instances : Type 0
-Instances = Met loopedCalls 2 × Met plainCalls 2 × Met stoppedCalls 3
+Instances = Met loopedCalls 2 × Met plainCalls 2 × Met stoppedCalls 3 × MetLonger longerCalls 2 2

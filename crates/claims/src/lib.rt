@@ -3,11 +3,19 @@
 ghost use Rattle.claims.specs.Instances.{Instances};
 ghost use Rattle.claims.specs.Known.{KnownFrames};
 ghost use Rattle.claims.specs.LongRun.{LongRun};
+ghost use Rattle.claims.specs.Longer.{InCents};
 
 // Demand 3, for every list of calls on one fresh player.
 pub fn long_run()
     ensures { λ _. ⌜ LongRun ⌝ }
 {}
+
+// Lists with blocks in cents beside the other calls give what the lists of demand 3 give.
+pub fn blocks_in_cents()
+    ensures { λ _. ⌜ InCents ⌝ }
+{
+    detune::factor_is_exact();
+}
 
 // Lists of calls that meet its premises: looped, unlooped, and with a stop.
 pub fn premises_are_met()

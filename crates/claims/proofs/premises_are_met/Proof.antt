@@ -15,7 +15,11 @@ use Rattle.sub_sample.specs.SubSample.{headAt}
 use Rattle.player.specs.Block.{idle, startAt, isAligned, hasEnded, turnsOver, alignedPlan, subSamplePlan, settings, firstHead, plan, badBlockTime, badRate, badSamples, refusal, rendered}
 use Rattle.claims.specs.Calls.{Call, allTyped, accepts, next, accepted, opening, playing, Clip, Started, clipIn, startIn, stopIn, switchIn, pointIn, gathered}
 use Rattle.claims.specs.LongRun.{startsInTime, OnlyBlocks}
-use Rattle.claims.specs.Instances.{rate, frames, loopedCalls, plainCalls, stoppedCalls, Met}
+use Rattle.detune.specs.Table.{entries}
+use Rattle.detune.specs.Detune.{octaves, above, badCents, factorOf}
+use Rattle.cents.specs.Cents.{centsRefusal, renderedCents}
+use Rattle.claims.specs.Longer.{replaced}
+use Rattle.claims.specs.Instances.{rate, frames, loopedCalls, plainCalls, stoppedCalls, longerCalls, Met, Instances}
 use Rattle.claims.proofs.premises_are_met.Statement.{statement}
 use Rattle.claims.proofs.premises_are_met.Tie as tie
 
@@ -51,29 +55,24 @@ met calls blocks typed clips starts time switches stops points plain played = re
   played = played;
 }
 
-looped : Met loopedCalls 2
-unfolding accepted accepts next opening playing handled buffered onStart onStop onLoop badTime clamped clampedStart clampedEnd fresh validRate validShape
-    duration rendered refusal badBlockTime badRate badSamples plan isAligned startAt alignedPlan subSamplePlan settings firstHead headAt hasEnded
-    turnsOver firstFrame endsWithin played nextFrame lastWrap alignedPosition dt blockSeconds blockEnd idle roundAway ofBits ofInt round sum add mul div
-    rem lt le eq ne neg sub toUnsigned fits
-looped = met loopedCalls 2 tt refl refl tt (lit≤ tt) (lit≤ tt) refl ((refl, refl, refl), ((refl, refl, refl), tt)) refl
-
-plain : Met plainCalls 2
-unfolding accepted accepts next opening playing handled buffered onStart onStop onLoop badTime clamped clampedStart clampedEnd fresh validRate validShape
-    duration rendered refusal badBlockTime badRate badSamples plan isAligned startAt alignedPlan subSamplePlan settings firstHead headAt hasEnded
-    turnsOver firstFrame endsWithin played nextFrame lastWrap alignedPosition dt blockSeconds blockEnd idle roundAway ofBits ofInt round sum add mul div
-    rem lt le eq ne neg sub toUnsigned fits
-plain = met plainCalls 2 tt refl refl tt (lit≤ tt) (lit≤ tt) refl ((refl, refl, refl), ((refl, refl, refl), tt)) refl
-
-stopped : Met stoppedCalls 3
-unfolding accepted accepts next opening playing handled buffered onStart onStop onLoop badTime clamped clampedStart clampedEnd fresh validRate validShape
-    duration rendered refusal badBlockTime badRate badSamples plan isAligned startAt alignedPlan subSamplePlan settings firstHead headAt hasEnded
-    turnsOver firstFrame endsWithin played nextFrame lastWrap alignedPosition dt blockSeconds blockEnd idle roundAway ofBits ofInt round sum add mul div
-    rem lt le eq ne neg sub toUnsigned fits
-stopped = met stoppedCalls 3 tt refl refl tt (lit≤ tt) (lit≤ tt) refl ((refl, refl, refl), ((refl, refl, refl), ((refl, refl, refl), tt))) refl
+instances : Instances
+unfolding replaced centsRefusal renderedCents badCents factorOf octaves above entries accepted accepts next opening playing handled buffered onStart onStop
+    onLoop badTime clamped clampedStart clampedEnd fresh validRate validShape duration rendered refusal badBlockTime badRate badSamples plan isAligned startAt
+    alignedPlan subSamplePlan settings firstHead headAt hasEnded turnsOver firstFrame endsWithin played nextFrame lastWrap alignedPosition dt blockSeconds
+    blockEnd idle roundAway ofBits ofInt round sum add mul div rem lt le eq ne neg sub toUnsigned fits
+instances = (
+  met loopedCalls 2 tt refl refl tt (lit≤ tt) (lit≤ tt) refl ((refl, refl, refl), ((refl, refl, refl), tt)) refl,
+  met plainCalls 2 tt refl refl tt (lit≤ tt) (lit≤ tt) refl ((refl, refl, refl), ((refl, refl, refl), tt)) refl,
+  met stoppedCalls 3 tt refl refl tt (lit≤ tt) (lit≤ tt) refl ((refl, refl, refl), ((refl, refl, refl), ((refl, refl, refl), tt))) refl,
+  record {
+    typed = tt;
+    leftOut = refl;
+    met = met (replaced (fresh rate) longerCalls) 2 tt refl refl tt (lit≤ tt) (lit≤ tt) refl ((refl, refl, refl), ((refl, refl, refl), tt)) refl;
+  },
+)
 
 returns : tie.Need-returns
-returns c = (looped, plain, stopped)
+returns c = instances
 
 pub premises-are-met-spec : {M : Type 1} → statement M
 premises-are-met-spec = tie.close (tie.spec returns)
