@@ -59,7 +59,8 @@ enum {
     NETTHIMBLE_EMPTY = 12,   /* a buffer of no frames */
     NETTHIMBLE_TIME = 13,    /* block: the time is not finite, negative, over 2^30, or not above the last accepted block's */
     NETTHIMBLE_SPEED = 14,   /* block: the rate is not finite; the factor is NaN or outside 2^-64..2^64 */
-    NETTHIMBLE_LAYOUT = 15   /* clip: header, offsets or length differ from the layout */
+    NETTHIMBLE_LAYOUT = 15,  /* clip: header, offsets or length differ from the layout */
+    NETTHIMBLE_CENTS = 16    /* cents outside -12,000..12,000 */
 };
 
 /* ---- the records */
@@ -112,6 +113,12 @@ typedef struct {
     bool keep_alive;
     bool ended;
 } netthimble_block;
+
+/* The factor of a detune. */
+typedef struct {
+    double factor;
+    uint32_t refusal;
+} netthimble_factored;
 
 /* The shape of a clip, or of a buffer that is made. */
 typedef struct {
@@ -175,6 +182,9 @@ NETTHIMBLE_AT(block, channels, channels, 8);
 NETTHIMBLE_AT(block, refusal, refusal, 16);
 NETTHIMBLE_AT(block, keep_alive, keep_alive, 20);
 NETTHIMBLE_AT(block, ended, ended, 21);
+NETTHIMBLE_HOLDS(factored_size, sizeof(netthimble_factored) == 16);
+NETTHIMBLE_AT(factored, factor, factor, 0);
+NETTHIMBLE_AT(factored, refusal, refusal, 8);
 NETTHIMBLE_HOLDS(shaped_size, sizeof(netthimble_shaped) == 32);
 NETTHIMBLE_AT(shaped, refusal, refusal, 24);
 NETTHIMBLE_HOLDS(parts_size, sizeof(netthimble_parts) == 56);
@@ -213,9 +223,18 @@ uint32_t netthimble_player_set_buffer(netthimble_player *player, size_t channels
 
 /* Renders the block at `time` seconds of the context, which lasts 128 / sample rate, into `out`: channel c of the answered channels stands at
  * out[128 * c]; channels at and beyond the answered count are untouched. `samples` are the clip's (length 0 without one), `rate` is the
- * playback rate, and `factor` multiplies it (2^(cents / 1200) for a detune, 1 for none). Refused: 8, 13, 14, 1; *player and `out` are then
- * as they were. */
+ * playback rate, and `factor` multiplies it (that of netthimble_factor for a detune, 1 for none). Refused: 8, 13, 14, 1; *player and `out`
+ * are then as they were. */
 netthimble_block netthimble_player_process(netthimble_player *player, uint32_t *out, size_t out_len, const uint32_t *samples, size_t samples_len, double time, float rate, double factor);
+
+/* The factor of a detune in whole cents: the table's entry for the cents above whole octaves, over 2^30, times 2 to the whole octaves. Entry c
+ * is 2^(30 + c / 1200), rounded downwards to a whole number; no more is rounded. So 0 gives 1, 1200 gives 2, -1200 gives 1 / 2.
+ * Refused: 16; the factor is then 0. */
+netthimble_factored netthimble_factor(int32_t cents);
+
+/* Renders a block as netthimble_player_process does, with the factor of the cents. Refused: 8, 13, 16, 14, 1; *player and `out` are then as
+ * they were. */
+netthimble_block netthimble_player_process_cents(netthimble_player *player, uint32_t *out, size_t out_len, const uint32_t *samples, size_t samples_len, double time, float rate, int32_t cents);
 
 /* ---- the clip file */
 

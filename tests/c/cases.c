@@ -41,15 +41,16 @@ static netthimble_shape shape(size_t channels, size_t frames, float rate) {
     return s;
 }
 
+/* Where the fields of a player lie, and the bytes of each; then those of a refusal behind it. */
+static const size_t field_at[] = {0, 8, 16, 24, 32, 40, 48, 56, 64, 72, 73, 80, 88, 89, 96, 97, 104, 112, 120, 128, 136, 144};
+static const size_t field_size[] = {4, 8, 8, 8, 8, 1, 8, 8, 8, 1, 1, 8, 1, 1, 1, 1, 8, 8, 4, 1, 8, 4};
+enum { PLAYER_FIELDS = 21, TOLD_FIELDS = 22 };
+
+/* The same bytes in every field. */
 static bool same(const netthimble_player *a, const netthimble_player *b) {
-    return a->sample_rate == b->sample_rate && a->start_time == b->start_time && a->stop_time == b->stop_time && a->offset == b->offset
-        && a->duration == b->duration && a->loop_state.is_looping == b->loop_state.is_looping && a->loop_state.start == b->loop_state.start
-        && a->loop_state.end == b->loop_state.end && a->render_state.buffer_time == b->render_state.buffer_time
-        && a->render_state.started == b->render_state.started && a->render_state.entered_loop == b->render_state.entered_loop
-        && a->render_state.buffer_time_elapsed == b->render_state.buffer_time_elapsed && a->render_state.is_aligned == b->render_state.is_aligned
-        && a->render_state.ended == b->render_state.ended && a->has_start == b->has_start && a->has_buffer == b->has_buffer
-        && a->shape.channels == b->shape.channels && a->shape.frames == b->shape.frames && a->shape.rate == b->shape.rate
-        && a->has_block == b->has_block && a->block_time == b->block_time;
+    for (size_t i = 0; i < PLAYER_FIELDS; i++)
+        if (memcmp((const char *)a + field_at[i], (const char *)b + field_at[i], field_size[i]) != 0) return false;
+    return true;
 }
 
 /* ---- the records' bytes. On x86-64 a large record is returned through a pointer that is passed first; so the library writes straight
@@ -72,9 +73,7 @@ static void bytes(void) {
     memset(two, 0x55, sizeof two);
     CHECK(make(one, 48000.0f) == one);
     CHECK(make(two, 48000.0f) == two);
-    size_t at[] = {0, 8, 16, 24, 32, 40, 48, 56, 64, 72, 73, 80, 88, 89, 96, 97, 104, 112, 120, 128, 136, 144};
-    size_t size[] = {4, 8, 8, 8, 8, 1, 8, 8, 8, 1, 1, 8, 1, 1, 1, 1, 8, 8, 4, 1, 8, 4};
-    for (size_t i = 0; i < sizeof at / sizeof *at; i++) CHECK(written(at[i], size[i]));
+    for (size_t i = 0; i < TOLD_FIELDS; i++) CHECK(written(field_at[i], field_size[i]));
     for (size_t i = sizeof(netthimble_told); i < sizeof one; i++) CHECK(one[i] == 0xAA && two[i] == 0x55);
     CHECK(netthimble_player_size() == sizeof(netthimble_player));
     netthimble_told t;
@@ -99,6 +98,8 @@ static void rates(void) {
     CHECK(netthimble_player_set_buffer(&nobody, 1, 1, 48000.0f, frame, 1) == 10);
     CHECK(netthimble_player_process(&nobody, out, 4096, NULL, 0, 0, 1, 1).refusal == 1);
     CHECK(netthimble_player_process(&nobody, out, 4096, frame, 1, 0, 1, 1).refusal == 1);
+    CHECK(netthimble_player_process_cents(&nobody, out, 4096, frame, 1, 0, 1, 100).refusal == 1);
+    CHECK(netthimble_player_process_cents(&nobody, out, 4096, frame, 1, 0, 1, 12001).refusal == 16);
     CHECK(all(out, 0, 4096, 7));
 }
 
@@ -213,6 +214,82 @@ static void blocks(void) {
     CHECK(b.channels == 2 && !p.render_state.is_aligned);
 }
 
+/* ---- cents. All the factors are compared with the table's rule by tests/c_cases, from what factors.c prints. */
+
+static const int32_t bad_cents[] = {-12001, 12001, INT32_MIN, INT32_MAX, -13200, 100000};
+
+static void factors(void) {
+    netthimble_factored r = netthimble_factor(0);
+    CHECK(r.refusal == 0 && r.factor == 1.0);
+    CHECK((r = netthimble_factor(-1200)).refusal == 0 && r.factor == 0.5);
+    CHECK((r = netthimble_factor(1200)).refusal == 0 && r.factor == 2.0);
+    CHECK((r = netthimble_factor(-1)).refusal == 0 && r.factor == 2146243570.0 / 2147483648.0);
+    CHECK((r = netthimble_factor(12000)).refusal == 0 && r.factor == 1024.0);
+    CHECK((r = netthimble_factor(-12000)).refusal == 0 && r.factor == 1.0 / 1024.0);
+    for (size_t i = 0; i < sizeof bad_cents / sizeof *bad_cents; i++)
+        CHECK((r = netthimble_factor(bad_cents[i])).refusal == NETTHIMBLE_CENTS && r.factor == 0.0 && !signbit(r.factor));
+}
+
+static bool same_answer(netthimble_block a, netthimble_block b) {
+    return memcmp(&a.position, &b.position, sizeof a.position) == 0 && a.channels == b.channels && a.refusal == b.refusal
+        && a.keep_alive == b.keep_alive && a.ended == b.ended;
+}
+
+/* A block by cents is the block by their factor, from the same player: in its answer, the player and the whole output. Every block of a
+ * looped clip of two channels is so, aligned with 0 cents and not with others; forwards, and then backwards. */
+static void cents_blocks(void) {
+    int32_t cents[] = {0, 1, -1, 50, 700, -1199, -1200, 1200, 12000, -12000};
+    uint32_t *samples = lent(400, 0), *out = lent(4096, 7), *by_factor = lent(4096, 7), *plain = lent(4096, 7);
+    netthimble_player fresh, p;
+    CHECK(netthimble_player_new(&fresh, 48000.0f) == 0);
+    for (size_t i = 0; i < 400; i++) samples[i] = netthimble_bits((float)(i * 37 % 101) - 50.0f);
+    CHECK(netthimble_player_set_buffer(&fresh, 2, 200, 48000.0f, samples, 400) == 0);
+    CHECK(netthimble_player_start(&fresh, 0, 0, NETTHIMBLE_NEVER) == 0 && netthimble_player_loop(&fresh, true) == 0);
+    p = fresh;
+    CHECK(netthimble_player_process(&p, plain, 4096, samples, 400, 0, 1, 1).refusal == 0);
+    for (size_t i = 0; i < sizeof cents / sizeof *cents; i++) {
+        netthimble_factored f = netthimble_factor(cents[i]);
+        CHECK(f.refusal == 0);
+        p = fresh;
+        for (int n = 0; n < 4; n++) {
+            netthimble_player q = p;
+            float rate = n < 3 ? 1.0f : -0.5f;
+            double time = n * 128 / 48000.0;
+            netthimble_block a = netthimble_player_process_cents(&p, out, 4096, samples, 400, time, rate, cents[i]);
+            netthimble_block b = netthimble_player_process(&q, by_factor, 4096, samples, 400, time, rate, f.factor);
+            CHECK(a.refusal == 0 && a.channels == 2 && same_answer(a, b) && same(&p, &q));
+            CHECK(memcmp(out, by_factor, 4 * 4096) == 0 && all(out, 256, 4096, 7));
+            CHECK(p.render_state.is_aligned == (cents[i] == 0 && n < 3));
+            CHECK(n > 0 || (memcmp(out, plain, 4 * 4096) == 0) == (cents[i] == 0));
+        }
+    }
+}
+
+/* Refusals in their order: 8, 13, 16, 14, 1. */
+static void refused_cents(void) {
+    uint32_t *samples = lent(6, 0), *out = lent(4097, 7);
+    netthimble_player p = looped(samples), q = p;
+    netthimble_block b;
+    CHECK((b = netthimble_player_process_cents(&p, out, 4097, samples, 5, NAN, NAN, 12001)).refusal == 8);
+    CHECK((b = netthimble_player_process_cents(&p, NULL, 0, samples, 6, 0, 1, 0)).refusal == 8);
+    CHECK((b = netthimble_player_process_cents(&p, out + 1, 4096, samples, 5, NAN, NAN, 12001)).refusal == 13);
+    CHECK((b = netthimble_player_process_cents(&p, out + 1, 4096, samples, 5, -1, 1, 12001)).refusal == 13);
+    for (size_t i = 0; i < sizeof bad_cents / sizeof *bad_cents; i++) {
+        CHECK((b = netthimble_player_process_cents(&p, out + 1, 4096, samples, 5, 0, NAN, bad_cents[i])).refusal == 16);
+        CHECK(!b.keep_alive && !b.ended && b.channels == 0 && b.position == 0);
+        CHECK((b = netthimble_player_process_cents(&p, out + 1, 4096, samples, 6, 0, 1, bad_cents[i])).refusal == 16);
+    }
+    CHECK((b = netthimble_player_process_cents(&p, out + 1, 4096, samples, 5, 0, NAN, 12000)).refusal == 14);
+    CHECK((b = netthimble_player_process_cents(&p, out + 1, 4096, samples, 5, 0, INFINITY, -12000)).refusal == 14);
+    CHECK((b = netthimble_player_process_cents(&p, out + 1, 4096, samples, 5, 0, 1, 12000)).refusal == 1);
+    CHECK((b = netthimble_player_process_cents(&p, out + 1, 4096, NULL, 0, 0, 1, -12000)).refusal == 1);
+    CHECK(!b.keep_alive && !b.ended && b.channels == 0 && b.position == 0);
+    CHECK(same(&p, &q) && all(out, 0, 4097, 7));
+    CHECK((b = netthimble_player_process_cents(&p, out + 1, 4096, samples, 6, 0, 1, 12000)).refusal == 0);
+    CHECK(out[0] == 7 && !same(&p, &q));
+    CHECK((b = netthimble_player_process_cents(&p, out + 1, 4096, samples, 6, 0, 1, 12001)).refusal == 13);
+}
+
 /* ---- clips and buffers */
 
 static void clips(void) {
@@ -310,6 +387,9 @@ int main(void) {
     silence();
     refused_blocks();
     blocks();
+    factors();
+    cents_blocks();
+    refused_cents();
     clips();
     copies();
     buffers();

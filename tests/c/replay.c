@@ -197,19 +197,31 @@ static bool message(const word *w, size_t count) {
     return true;
 }
 
-/* Samples of another length than the clip's are pages that hold zeros. */
+/* The number of 32 bits in two's complement. */
+static bool i32_word(word w, int32_t *value) {
+    uint64_t bits;
+    if (!hex(w, 8, &bits)) return false;
+    *value = bits < 0x80000000 ? (int32_t)bits : -1 - (int32_t)(0xFFFFFFFF - bits);
+    return true;
+}
+
+/* A block by its factor, or in cents. Samples of another length than the clip's are pages that hold zeros. */
 static bool block(const word *w, size_t count) {
     static uint32_t out[MOST_OUT];
-    double time, factor;
+    double time, factor = 1;
     float speed;
+    int32_t cents = 0;
     size_t out_len = NETTHIMBLE_OUT, len = clip_len;
     const uint32_t *samples = clip;
-    if (count < 4 || count > 6 || !is(w[0], "B") || !f64_word(w[1], &time) || !f32_word(w[2], &speed) || !f64_word(w[3], &factor)) return false;
+    if (count < 4 || count > 6 || !f64_word(w[1], &time) || !f32_word(w[2], &speed)) return false;
+    bool by_factor = is(w[0], "B") && f64_word(w[3], &factor);
+    if (!by_factor && !(is(w[0], "D") && i32_word(w[3], &cents))) return false;
     if (count > 4 && (!dec(w[4], &out_len) || out_len > MOST_OUT)) return false;
     if (count > 5 && (!dec(w[5], &len) || len > MOST_SAMPLES)) return false;
     if (len != clip_len && len != 0) samples = (const uint32_t *)mmap(NULL, 4 * len, PROT_READ, MAP_PRIVATE | MAP_ANONYMOUS | MAP_NORESERVE, -1, 0);
     if (samples == MAP_FAILED) exit(3);
-    netthimble_block b = netthimble_player_process(&player, out, out_len, samples, len, time, speed, factor);
+    netthimble_block b = by_factor ? netthimble_player_process(&player, out, out_len, samples, len, time, speed, factor)
+                                   : netthimble_player_process_cents(&player, out, out_len, samples, len, time, speed, cents);
     if (len != clip_len && len != 0) munmap((void *)samples, 4 * len);
     if (b.refusal != 0) {
         refused(b.refusal);

@@ -1,3 +1,4 @@
--- What the proofs of `lent` share; the walks of `netthimble` cite the answers.
+-- What the proofs of `lent` share; those of `netthimble` cite the answers and the choice.
 pub mod Answers
+pub mod Choice
 mod Mute

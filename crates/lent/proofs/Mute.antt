@@ -1,7 +1,7 @@
 -- A player with a buffer of no channels keeps it, and its blocks are refused.
 use mathlib.Core.Path.{_≡_, refl, sym}
 use mathlib.Core.Bool.{Bool, true, false, not, _||_, cond, true≢false}
-use Prim.Native.Nat.{ℕ, _*_, _≤_}
+use Prim.Native.Nat.{ℕ, suc, _*_, _≤_}
 use native.Mathlib.Omega.{arith}
 use borrow.Author.Tests.{ne-eqb}
 use lib.Ieee.{Float}
@@ -10,7 +10,9 @@ use lib.Ieee.Scale.{finite}
 use Rattle.buffer.specs.Limits.{validShape, validRate}
 use Rattle.buffer.specs.Refusals.{SHAPE, RATE, VALUE, SECOND, EARLY}
 use Rattle.player.specs.Messages.{handled, buffered, clamped, badTime, onStart, onStop, onLoop, onLoopStart, onLoopEnd}
-use Rattle.player.specs.Block.{rendered, refusal, badSamples, badBlockTime, badRate}
+use Rattle.player.specs.Block.{rendered, refusal, checks, badSamples, badBlockTime, badRate}
+use Rattle.detune.specs.Detune.{badCents, factorOf}
+use Rattle.cents.specs.Cents.{renderedCents, centsRefusal}
 use Rattle.player.specs.declared.Player.{Player}
 use Rattle.player.specs.declared.ControlMessage.{ControlMessage}
 use Rattle.player.specs.declared.ControlMessage.the-variants.{Start, Stop, Loop, LoopStart, LoopEnd}
@@ -19,12 +21,8 @@ use Rattle.player.specs.declared.Handled.the-variants.{Done, Refused}
 use Rattle.player.specs.declared.Rendered.{Rendered}
 use Rattle.player.specs.declared.Rendered.the-variants as answer
 use Rattle.lent.specs.Lent.{afterCall, afterBlock}
-use Rattle.lent.specs.Nobody.{nobody, Mute, StaysMute, IsRefused}
-
--- what holds of both arms holds of a choice
-either : {A : Type 0} (P : A → Type 0) (b : Bool) (x y : A) → P x → P y → P (cond b x y)
-either P true x y holds other = holds
-either P false x y other holds = holds
+use Rattle.lent.proofs.Choice.{either}
+use Rattle.lent.specs.Nobody.{nobody, Mute, StaysMute, Refuses, IsRefused}
 
 pub mute-nobody : Mute nobody
 unfolding nobody
@@ -80,26 +78,26 @@ bad-samples : (p : Player) (n : ℕ) → Mute p → badSamples p n ≡ true
 unfolding badSamples validShape
 bad-samples p n h = simp (h .0, h .1)
 
--- the last of four tests holds
-fourth : (a b c d : Bool) → d ≡ true → 1 ≤ cond a 8 (cond b 13 (cond c 14 (cond d 1 0)))
-fourth true b c d is = omega arith
-fourth false true c d is = omega arith
-fourth false false true d is = omega arith
-fourth false false false true is = omega arith
-fourth false false false false is = absurd (true≢false (sym is))
+-- the last of five tests holds
+fifth : (a b c d e : Bool) → e ≡ true → 1 ≤ cond a 8 (cond b 13 (cond c 16 (cond d 14 (cond e 1 0))))
+fifth true b c d e is = omega arith
+fifth false true c d e is = omega arith
+fifth false false true d e is = omega arith
+fifth false false false true e is = omega arith
+fifth false false false false true is = omega arith
+fifth false false false false false is = absurd (true≢false (sym is))
 
-some-refusal : (p : Player) (m n : ℕ) (time rate factor : Float) → Mute p → 1 ≤ refusal 128 p m n time rate factor
-unfolding refusal
-some-refusal p m n time rate factor h = fourth (not (eqb m (32 * 128))) (badBlockTime p time) (badRate rate factor) (badSamples p n) (bad-samples p n h)
+some-refusal : (p : Player) (m n : ℕ) (time : Float) (bad : Bool) (rate factor : Float) → Mute p → 1 ≤ checks 128 p m n time bad rate factor
+some-refusal p m n time bad rate factor h = fifth (not (eqb m (32 * 128))) (badBlockTime p time) bad (badRate rate factor) (badSamples p n) (bad-samples p n h)
 
 -- an answer by a number that is not 0
-by-number : (p : Player) (block : Rendered) (k : ℕ) (b : Bool) → b ≡ false → 1 ≤ k → (1 ≤ afterBlock p (cond b block (answer.Refused k)) .answer .refusal) × (afterBlock p (cond b block (answer.Refused k)) .player ≡ p)
+by-number : (p : Player) (block : Rendered) (k : ℕ) → 1 ≤ k → Refuses p (cond (eqb k 0) block (answer.Refused k))
 unfolding afterBlock
-by-number p block k false is some = (some, refl)
-by-number p block k true is some = absurd (true≢false is)
+by-number p block (suc k) some = rw (ne-eqb (suc k) 0 (λ e. omega (arith, e))) (some, refl)
 
 pub is-refused : IsRefused
-unfolding rendered
-is-refused p m n time rate factor h =
-    let some = some-refusal p m n time rate factor h in
-    by-number p _ _ _ (ne-eqb (refusal 128 p m n time rate factor) 0 (λ e. omega (arith, e, some))) some
+unfolding rendered refusal renderedCents centsRefusal
+is-refused = (
+  (λ p m n time rate factor h. by-number p _ _ (some-refusal p m n time false rate factor h)),
+  (λ p m n time rate cents h. by-number p _ _ (some-refusal p m n time (badCents cents) rate (factorOf cents) h)),
+)

@@ -3,14 +3,17 @@
 use mathlib.Core.Path.{_≡_}
 use mathlib.Core.Bool.{true, false}
 use Prim.Native.Nat.{ℕ, _≤_}
+use lib.IntN.{ℤ}
 use lib.Ieee.{Float, binary32, ofBits}
 use Rattle.buffer.specs.declared.Shape.{Shape}
 use Rattle.seconds.specs.Seconds.{context, inClip, none}
 use Rattle.player.specs.Record.{shapeOf, loopOf, renderOf}
 use Rattle.player.specs.Messages.{handled, buffered}
 use Rattle.player.specs.Block.{rendered}
+use Rattle.cents.specs.Cents.{renderedCents}
 use Rattle.player.specs.declared.Player.{Player}
 use Rattle.player.specs.declared.ControlMessage.{ControlMessage}
+use Rattle.player.specs.declared.Rendered.{Rendered}
 use Rattle.lent.specs.Lent.{afterCall, afterBlock}
 
 -- no shape
@@ -45,9 +48,13 @@ StaysMute =
     × ((p : Player) (channels frames : ℕ) (rate : Float) (length : ℕ) → Mute p → Mute (afterCall p (buffered p channels frames rate length) .player))
 
 -- a refused block: some number, and the same player
+abbrev pub Refuses : Player → Rendered → Type 0
+Refuses p block = (1 ≤ afterBlock p block .answer .refusal) × (afterBlock p block .player ≡ p)
+
 abbrev pub IsRefused : Type 0
-IsRefused = (p : Player) (m n : ℕ) (time rate factor : Float) → Mute p
-    → (1 ≤ afterBlock p (rendered 128 p m n time rate factor) .answer .refusal) × (afterBlock p (rendered 128 p m n time rate factor) .player ≡ p)
+IsRefused =
+    ((p : Player) (m n : ℕ) (time rate factor : Float) → Mute p → Refuses p (rendered 128 p m n time rate factor))
+    × ((p : Player) (m n : ℕ) (time rate : Float) (cents : ℤ) → Mute p → Refuses p (renderedCents 128 p m n time rate cents))
 
 abbrev pub NobodyPlays : Type 0
 NobodyPlays = Mute nobody × StaysMute × IsRefused

@@ -1,12 +1,16 @@
-// What the library for C is made of, below its exported functions: the player's calls by value, where
-// all branches are, a message on the lent player, and the player that a refused rate is answered with.
+// What the library for C is made of, below its exported functions: the player's calls by value, a
+// message on the lent player, the factor of cents, and the player that a refused rate is answered
+// with.
 ghost use mathlib.Core.Path.{_≡_};
 ghost use lib.ListN.{length};
 ghost use Rattle.player.specs.Messages.{handled, buffered};
 ghost use Rattle.player.specs.Block.{rendered, output};
-ghost use Rattle.lent.specs.Lent.{afterCall, afterBlock};
+ghost use Rattle.detune.specs.Detune.{factored};
+ghost use Rattle.lent.specs.Lent.{afterCall, afterBlock, factorFor, inCents};
 ghost use Rattle.lent.specs.Nobody.{noShape, nobody, NobodyPlays};
 use buffer::Shape;
+use buffer::refusals;
+use detune::Detune;
 use player::ControlMessage;
 use player::Handled;
 use player::LoopState;
@@ -37,6 +41,13 @@ pub struct BlockAnswer {
 pub struct Blocked {
     pub player: Player,
     pub answer: BlockAnswer,
+}
+
+// The factor of whole cents; or the number of their refusal beside zero.
+#[repr(C)]
+pub struct Factored {
+    pub factor: f64,
+    pub refusal: u32,
 }
 
 pub fn after_call(p: Player, handled: Handled) -> Told
@@ -107,6 +118,50 @@ pub fn block_by_value(
         × (now (out .exit) ≡ output 128 p (now (out .entry)) (now (samples .entry)) time rate factor) ⌝ }
 {
     after_block(p, p.process(out, samples, time, rate, factor))
+}
+
+pub fn factor_for(detune: Detune) -> Factored
+    ensures { λ r. ⌜ r ≡ factorFor detune ⌝ }
+{
+    match detune {
+        Detune::By(factor) => Factored { factor, refusal: 0 },
+        Detune::Refused(refusal) => Factored {
+            factor: 0.0,
+            refusal,
+        },
+    }
+}
+
+// The factor of whole cents. No cents, at which a block may be quick, are told here, where they cost
+// no call.
+pub fn factor_of(cents: i32) -> Factored
+    ensures { λ r. ⌜ r ≡ factorFor (factored cents) ⌝ }
+{
+    if cents == 0 {
+        return Factored {
+            factor: 1.0,
+            refusal: 0,
+        };
+    }
+    factor_for(detune::factor(cents))
+}
+
+// The answer of a block that was played with the factor of refused cents.
+pub fn in_cents(answer: BlockAnswer) -> BlockAnswer
+    ensures { λ r. ⌜ r ≡ inCents answer ⌝ }
+{
+    let position = answer.position;
+    let mut refusal = answer.refusal;
+    if refusal == refusals::SPEED {
+        refusal = refusals::CENTS;
+    }
+    BlockAnswer {
+        position,
+        channels: answer.channels,
+        refusal,
+        keep_alive: answer.keep_alive,
+        ended: answer.ended,
+    }
 }
 
 // A control message. Returns the number of its refusal, 0 for none.

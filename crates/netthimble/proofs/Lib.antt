@@ -1,2 +1,5 @@
 -- What the proofs of `netthimble` share.
+mod InCents
+mod Lent
+mod Moved
 mod Same
