@@ -6,16 +6,18 @@
     player.start()
     block = player.block(0.0)      # block.samples[0] is an array of 128 floats
     block.position, block.ended    # seconds of the clip; whether the player has ended
+    player.block(0.01, cents=-50)  # the next block, a quarter tone lower
 
 A call that the library refuses raises Refused, whose number is document 01's, and changes nothing.
 The library is target/c/libnetthimble.so of this repository, or the file that the environment variable NETTHIMBLE_LIBRARY names."""
 import ctypes
+import operator
 import os
 from array import array
-from ctypes import POINTER, c_bool, c_double, c_float, c_size_t, c_uint8, c_uint32
+from ctypes import POINTER, c_bool, c_double, c_float, c_int32, c_size_t, c_uint8, c_uint32
 from pathlib import Path
 
-__all__ = ["FRAMES", "NEVER", "Block", "Clip", "Player", "Refused", "load"]
+__all__ = ["FRAMES", "NEVER", "Block", "Clip", "Player", "Refused", "factor", "load"]
 
 FRAMES = 128  # frames of a block
 NEVER = 1.7976931348623157e308  # the largest double: a duration that is none
@@ -38,6 +40,7 @@ WORDS = {
     13: "a block's time that is not finite, negative, over 2^30, or not above the last accepted block's",
     14: "a rate that is not finite, or a factor that is NaN or outside 2^-64..2^64",
     15: "a clip file whose header, offsets or length differ from the layout",
+    16: "cents outside -12,000..12,000",
 }
 
 
@@ -80,6 +83,10 @@ class _Block(ctypes.Structure):
     _fields_ = [("position", c_double), ("channels", c_size_t), ("refusal", c_uint32), ("keep_alive", c_bool), ("ended", c_bool)]
 
 
+class _Factor(ctypes.Structure):
+    _fields_ = [("factor", c_double), ("refusal", c_uint32)]
+
+
 class _Shaped(ctypes.Structure):
     _fields_ = [("shape", _Shape), ("refusal", c_uint32)]
 
@@ -95,6 +102,8 @@ _CALLS = {
     "loop_end": (_Told, [_Player, c_double]),
     "player_set_buffer": (c_uint32, [POINTER(_Player), c_size_t, c_size_t, c_float, _WORDS, c_size_t]),
     "player_process": (_Block, [POINTER(_Player), _WORDS, c_size_t, _WORDS, c_size_t, c_double, c_float, c_double]),
+    "player_process_cents": (_Block, [POINTER(_Player), _WORDS, c_size_t, _WORDS, c_size_t, c_double, c_float, c_int32]),
+    "factor": (_Factor, [c_int32]),
     "clip_shape": (_Shaped, [_BYTES, c_size_t]),
     "clip_frames": (c_uint32, [_BYTES, c_size_t, _WORDS, c_size_t]),
 }
@@ -139,6 +148,19 @@ def _check_floats():
     starts. A module built with -ffast-math can change that for the thread that loads it."""
     if not (_ONE + _HALF == 1.0 and -_ONE - _HALF == -1.0 and _ONE + 1.5 * _HALF > 1.0 and _TINY + _TINY > _TINY):
         raise RuntimeError("netthimble: this thread's floating-point mode is not IEEE 754's default (another module has changed it)")
+
+
+def _cents(cents):
+    """Whole cents as the library takes them. What no i32 holds is refused as the i32 next to it is."""
+    return max(-(2**31), min(2**31 - 1, operator.index(cents)))
+
+
+def factor(cents):
+    """The factor of whole cents, -12,000 to 12,000: entry (cents mod 1,200) of document 02's table over 2^30, times 2 to the whole octaves."""
+    r = _CALL["factor"](_cents(cents))
+    if r.refusal:
+        raise Refused("factor", r.refusal)
+    return r.factor
 
 
 class Clip:
@@ -258,11 +280,17 @@ class Player:
         """The loop ends `at` seconds of the clip; 0 or less, or more than the clip has, means its end."""
         self._tell("loop_end", at)
 
-    def block(self, time, rate=1.0, factor=1.0):
-        """The block at `time` seconds of the context, played at `rate` times `factor`. Times must rise."""
+    def block(self, time, rate=1.0, factor=None, *, cents=None):
+        """The block at `time` seconds of the context, played at `rate` times `factor` (1 if it is left out), or times the factor of whole
+        `cents` in its place. Times must rise."""
+        if factor is not None and cents is not None:
+            raise TypeError("block takes a factor or cents, not both")
         _check_floats()
         out, lent = (c_uint32 * _OUT)(), self._clip._lent if self._clip else (c_uint32 * 0)()
-        r = _CALL["player_process"](self._record, out, _OUT, lent, len(lent), time, rate, factor)
+        if cents is None:
+            r = _CALL["player_process"](self._record, out, _OUT, lent, len(lent), time, rate, 1.0 if factor is None else factor)
+        else:
+            r = _CALL["player_process_cents"](self._record, out, _OUT, lent, len(lent), time, rate, _cents(cents))
         if r.refusal:
             raise Refused("block", r.refusal)
         data = memoryview(out).cast("B")
