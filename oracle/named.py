@@ -1,10 +1,11 @@
-"""Scripts chosen by hand, at least one for each rule of document 01. `named()` gives (name, units).
+"""Scripts chosen by hand, at least one for each rule of document 01. `named()` gives (name, units), and `in_cents()`
+those of document 02, 2.1.
 
 Where a name begins with `panic: ` the original panics (document 01's excepted cases); these are not recorded.
 """
 import math
 
-from scripts import MAX, TWO_64, f32, words_text, x32, x64
+from scripts import MAX, TWO_64, f32, words_text, x32, x64, xi32
 
 RATE = 48000.0
 DT = 1 / RATE
@@ -48,6 +49,10 @@ def E(at):
 
 def B(time=0.0, rate=1.0, factor=1.0, *lengths):
     return " ".join(["B", x64(time), x32(rate), x64(factor), *map(str, lengths)])
+
+
+def cents(time=0.0, rate=1.0, cents=0, *lengths):
+    return " ".join(["D", x64(time), x32(rate), xi32(cents), *map(str, lengths)])
 
 
 def blocks(count, rate=1.0, factor=1.0, first=0, output=RATE):
@@ -319,3 +324,48 @@ def text():
 def named():
     for part in (limits, messages, order_of_steps, aligned, sub_sample, block_rows, buffers, text):
         yield from part()
+
+
+def in_cents():
+    clip = [C(ramp(300)), S()]
+    yield "cents 0 stays aligned", [R(), *clip, "L 1", *(u for n in range(4) for u in (cents(n * D), "Z"))]
+    yield "cents 0 beside factor 1", [R(), *clip, B(), cents(D), "Z", B(2 * D), "Z"]
+    yield "cents 0 at rate 0.5", [R(), *clip, cents(0.0, 0.5), "Z", B(D, 0.5, 1.0), "Z"]
+    yield "cents end aligned blocks", [R(), *clip, cents(), cents(D, 1.0, 1), "Z", cents(2 * D), "Z"]
+    for c in (1, -1, 700, -700, 1199, -1199, 1200, -1200, 1201, -1201, 2400, -2400, 11999, -11999, 12000, -12000):
+        yield f"cents {c}", [R(), C(ramp(40)), S(), "L 1", cents(0.0, 1.0, c), "Z", cents(D, -0.25, c), "Z"]
+    every = [(n, n + 1200 * (7 * n % 20 - 10)) for n in range(1200)]
+    yield "cents: every entry, every octave", [R(), C([1.0] * 16), S(0.0, 0.5 / RATE), *(cents(n * D, 2.0**-20, c) for n, c in every), "Z"]
+    yield "cents -1200 is factor 1/2", [R(), *clip, cents(0.0, 1.0, -1200), "Z", B(D, 1.0, 0.5), "Z"]
+    yield "cents 2400 is factor 4", [R(), *clip, cents(0.0, 0.5, 2400), "Z", B(D, 0.5, 4.0), "Z"]
+    for e in (1, -1, 10, -10):
+        yield f"cents {1200 * e} undone by the rate is aligned", [R(), *clip, cents(0.0, 2.0**-e, 1200 * e), "Z"]
+    yield "cents 1 with the rate of cents -1 is not aligned", [R(), *clip, cents(0.0, 2 ** (-1 / 1200), 1), "Z"]
+    bad = (12001, -12001, 13200, -13200, 24000, -24000, 2**31 - 1, -(2**31))
+    yield "cents 16: outside -12,000 to 12,000", [R(), *clip, *(cents(0.0, 1.0, c) for c in bad), "Z", cents(0.0, 1.0, 12000), cents(D, 1.0, -12000), "Z"]
+    yield "cents 8: output lengths", [R(), *(cents(0.0, 1.0, 0, n) for n in (0, 128, 4095, 4097)), cents(0.0, 1.0, 0, 4096), "Z"]
+    yield "cents 1: sample lengths", [R(), cents(0.0, 1.0, 0, 4096, 1), cents(0.0, 1.0, 0, 4096, 0), C(ramp(3), ramp(3)), S(),
+                                      *(cents(D, 1.0, 1, 4096, n) for n in (0, 3, 5, 7, 6)), "Z"]
+    top = 2.0**30
+    yield "cents 13: times", [R(), f"D {NAN} 3F800000 00000000", f"D {INF} 3F800000 00000000", cents(-5e-324), cents(UP(top)), "Z", cents(-0.0), "Z",
+                              cents(0.0), B(0.0), cents(5e-324), B(5e-324), cents(top), cents(top), "Z"]
+    yield "cents 14: rates", [R(), *(f"D {x64(0.0)} {bits} 00000000" for bits in ("7F800000", "FF800000", "7FC00000")), "Z"]
+    wrong = f"D {NAN} 7F800000 {xi32(12001)}"
+    yield "cents: 8, 13, 16, 14, 1 in this order", [R(), C([1.0]), S(), wrong + " 7 9", wrong + " 4096 9", f"D {x64(0.0)} 7F800000 {xi32(12001)} 4096 9",
+                                                   f"D {x64(0.0)} 7F800000 {xi32(12000)} 4096 9", cents(0.0, 1.0, 12000, 4096, 9), cents(0.0, 1.0, 12000, 4096, 1), "Z"]
+    yield "cents: 8 before each", [R(), C([1.0]), S(), f"D {NAN} 3F800000 00000000 7", cents(0.0, 1.0, 12001, 7), f"D {x64(0.0)} 7F800000 00000000 7",
+                                   cents(0.0, 1.0, 0, 7, 9), "Z"]
+    yield "cents: 13 before each", [R(), C([1.0]), S(), cents(-1.0, 1.0, 12001), f"D {NAN} 7F800000 00000000", cents(-1.0, 1.0, 0, 4096, 9), "Z"]
+    yield "cents: 16 before 14, 16 before 1", [R(), C([1.0]), S(), f"D {x64(0.0)} 7F800000 {xi32(-12001)}", cents(0.0, 1.0, -12001, 4096, 9), "Z"]
+    yield "cents: a refused block changes nothing", [R(), *clip, "L 1", B(0.0, 0.7), "Z", cents(D, 1.0, 12001), "Z", cents(D, 1.0, 1, 128), "Z",
+                                                    cents(0.0, 1.0, 1), "Z", f"D {x64(D)} 7FC00000 00000001", "Z", cents(D, 1.0, 1, 4096, 9), "Z", cents(D, 1.0, 1), "Z"]
+    yield "cents: a refused block leaves the last time", [R(), cents(1.0), cents(2.0, 1.0, 12001), cents(1.5), "Z"]
+    yield "cents without a player", [R(), "# then", "R 00000000", cents(), cents(0.0, 1.0, 12001)]
+    yield "cents: no clip, no start, ended", [R(), cents(), "Z", S(MAX), cents(D, 1.0, -1), "Z", C([1.0]), T(0.0), cents(1.0, 1.0, 5), "Z", cents(2.0, 1.0, 7), "Z"]
+    yield "cents: backwards, two channels", [R(), C(ramp(9), ramp(9, 100.0)), S(0.0, 8 / RATE), "L 1", cents(0.0, -1.0, -1), "Z", cents(D, -1.0, 1199), "Z"]
+    yield "cents: 44,100 to 48,000", [R(), C(ramp(200), rate=44100.0), S(), cents(0.0, 1.0, -147), "Z", cents(D, 1.0, -147), "Z"]
+    yield "cents: stop and duration", [R(), C(ramp(300)), S(0.0, 0.0, 100 / RATE), T(90 * DT), cents(0.0, 1.0, 350), "Z"]
+    yield "unknown lines in cents", [R(), "D", "D 0 0 0", "d" + cents()[1:], cents() + " 4096 0 0", cents() + " 65537", cents() + " x", cents() + " 4096 536870913",
+                                     cents()[:-1], cents() + "0", cents() + " ", " " + cents(), f"D {x64(0.0)} 3F800000 {x64(1.0)}", f"D {x64(0.0)} 3F800000 fffffff0",
+                                     f"D {x64(0.0)} 3F800000 -0000001", f"D {x64(0.0)} {x64(1.0)} 00000000", f"D  {x64(0.0)} 3F800000 00000000", "Z"]
+    yield "words given up by a block in cents", [R(), "C 1 2 473B8000", "W 3F800000", cents(), "Z"]

@@ -18,8 +18,13 @@ SPECIAL = ["00000000", "80000000", "00000001", "80000001", "007FFFFF", "00800000
            "FF800000", "7FC00000", "7FC00001", "FFC00000", "7F800001", "FFBFFFFF", "3F800000", "BF800000", "33800000"]
 NOT_FINITE = ["7FF0000000000000", "FFF0000000000000", "7FF8000000000000", "7FF0000000000001"]
 LARGEST_RESULT = 262000  # words of a conversion; our replay has room for 262,144
+CENTS = [s * c for c in (1, 2, 100, 700, 1199, 1200, 1201, 2399, 2400, 11999, 12000) for s in (1, -1)]
+BAD_CENTS = [12001, -12001, 13200, -13200, 2**16, -(2**16), 2**31 - 1, -(2**31)]
 BAD_LINES = ["", "b", "Z ", "B", "S", "L 2", "L", "T 0", "Q", "W 00000000", "R", "R 48000", "KF 1 1", " Z", "X 0", "P",
              "E 3ff0000000000000", "C 1 1 473b8000", "L  1", "V 1 1 473B8000", "J 1 1 473B8000 1 1", "B 0 0 0"]
+BAD_CENTS_LINES = ["D", "D 0 0 0", "d 0000000000000000 3F800000 00000000", "D 0000000000000000 3F800000", "D 0000000000000000 3F800000 0",
+                   "D 0000000000000000 3F800000 3FF0000000000000", "D 0000000000000000 3F800000 fffffff0", "D 0000000000000000 3F800000 -0000001",
+                   "D 0000000000000000 3F800000 00000000 ", "D 0000000000000000 3F800000 00000000 65537", "D 0000000000000000 3F800000 00000000 4096 0 0"]
 
 
 def f32(x):
@@ -32,6 +37,11 @@ def x32(x):
 
 def x64(x):
     return struct.pack(">d", x).hex().upper()
+
+
+def xi32(n):
+    """Two's complement."""
+    return struct.pack(">i", n).hex().upper()
 
 
 BAD_FACTORS = [x64(x) for x in (0.0, -1.0, math.nextafter(TWO_64, MAX), math.nextafter(1 / TWO_64, 0.0))]
@@ -68,8 +78,10 @@ def make_pools(rng, size):
 class Generator:
     POOL = 80000
 
-    def __init__(self, seed):
+    def __init__(self, seed, cents=True):
+        """Without `cents` the scripts have no `D` lines: the first ones that were recorded are made so."""
         self.rng = random.Random(seed)
+        self.cents = cents
         self.pools = make_pools(self.rng, self.POOL)
 
     # ------------------------------------------------------------ numbers
@@ -113,12 +125,33 @@ class Generator:
             return 2 ** (self.rng.randint(-2400, 2400) / 1200)
         return self.rng.choice(FACTORS)
 
+    def whole_cents(self):
+        r = self.rng.random()
+        if r < 0.1:
+            return 0
+        if r < 0.3:
+            return self.rng.choice(CENTS)
+        if r < 0.32:
+            return self.rng.choice(BAD_CENTS)
+        return self.rng.randint(-12000, 12000)
+
+    def plain(self):
+        """Rate 1, and factor 1 or 0 cents."""
+        return 1.0, 0 if self.cents and self.rng.random() < 0.3 else 1.0
+
     def speed(self):
-        """Rate and factor; at times a pair whose product is 1 or nearly."""
+        """Rate, and a factor (a float) or cents (an int); at times a pair whose product is 1 or nearly."""
+        cents = self.cents and self.rng.random() < 0.4
         if self.rng.random() < 0.06:
-            e = self.rng.choice([1, -1, 64, -64, 10])
-            return 2.0**-e, 2.0**e
-        return self.play_rate(), self.factor()
+            e = self.rng.choice([1, -1, 10, -10, 3] if cents else [1, -1, 64, -64, 10])
+            return 2.0**-e, 1200 * e if cents else 2.0**e
+        return self.play_rate(), self.whole_cents() if cents else self.factor()
+
+    def next_speed(self, rate, detune):
+        """The same, but for cents other than 0, which change often."""
+        if isinstance(detune, int) and detune != 0 and self.rng.random() < 0.7:
+            detune = self.whole_cents()
+        return rate, detune
 
     def near(self, x):
         """x, or x moved by a few ulps or by about the near tolerance."""
@@ -188,12 +221,36 @@ class Generator:
     def clip(self, channels, frames, rate):
         return f"C {channels} {frames} {x32(rate)}" + self.words(channels * frames)
 
-    def block(self, time, rate, factor):
-        return f"B {x64(time)} {x32(rate)} {x64(factor)}"
+    def block(self, time, rate, detune):
+        if isinstance(detune, int):
+            return f"D {x64(time)} {x32(rate)} {xi32(detune)}"
+        return f"B {x64(time)} {x32(rate)} {x64(detune)}"
+
+    def refused_cents(self, times):
+        """A `D` line with one to four things that are refused, or an unknown one."""
+        rng = self.rng
+        if rng.random() < 0.15:
+            return rng.choice(BAD_CENTS_LINES)
+        time, rate, cents, output, samples = x64(rng.choice(times)), "3F800000", self.whole_cents(), 4096, None
+        for row in rng.sample([8, 13, 14, 16, 16, 1], rng.randint(1, 4)):
+            if row == 8:
+                output = rng.choice([0, 128, 4095, 4097])
+            elif row == 13:
+                time = rng.choice([*NOT_FINITE, x64(-1.0), x64(math.nextafter(2.0**30, MAX)), x64(times[0])])
+            elif row == 14:
+                rate = rng.choice(["7F800000", "FF800000", "7FC00000", "FF800001"])
+            elif row == 16:
+                cents = rng.choice(BAD_CENTS) if rng.random() < 0.8 else rng.choice([1, -1]) * rng.randint(12001, 2**31 - 1)
+            else:
+                samples = rng.choice([601 * 32 + 1, 99999])
+        lengths = "" if output == 4096 and samples is None else f" {output}" + ("" if samples is None else f" {samples}")
+        return f"D {time} {rate} {xi32(cents)}{lengths}"
 
     def refused(self, times):
         """A line that is refused wherever it stands, or nearly always."""
         rng = self.rng
+        if self.cents and rng.random() < 0.3:
+            return self.refused_cents(times)
         t, one = rng.choice(times), x64(1.0)
         big = math.nextafter(2.0**30, MAX)
         bad64 = rng.choice(NOT_FINITE)
@@ -295,7 +352,7 @@ class Generator:
                 units.append(f"T {x64(self.context_time(times, rate))}")
             elif r < 0.2:
                 units.append(self.refused(times))
-            speed = (1.0, 1.0) if rng.random() < 0.95 else self.speed()
+            speed = self.plain() if rng.random() < 0.95 else self.speed()
             units.append(self.block(t, *speed))
             if rng.random() < 0.1:
                 units.append("Z")
@@ -314,7 +371,7 @@ class Generator:
         if rng.random() < 0.4:
             units.append("L 0")
         for i in range(rng.randint(1, 4)):
-            speed = (1.0, 1.0) if rng.random() < 0.85 else self.speed()
+            speed = self.plain() if rng.random() < 0.85 else self.speed()
             units.append(self.block(start if i == 0 else start + i * 128 / rate, *speed))
         return [f"R {x32(rate)}"] + units + ["Z"]
 
@@ -329,10 +386,11 @@ class Generator:
             frames, count = 128 * whole + rng.choice([0, 0, 0, 1, -1, rng.randint(-127, 127)]), whole + 3
         units = [f"C 1 {frames} {x32(rate)}" + words_text(self.pools["flat"][: 9 * frames])]
         units += [f"S {x64(0.0)} {x64(0.0)} {x64(MAX)}", f"L {int(looped)}"]
-        speed = (1.0, 1.0) if rng.random() < 0.6 else self.speed()
+        speed = self.plain() if rng.random() < 0.6 else self.speed()
         summed, t = rng.random() < 0.5, 0.0
         for n in range(count):
             units.append(self.block(t, *speed))
+            speed = self.next_speed(*speed)
             t = t + 1 / rate * 128 if summed else 128 * (n + 1) / rate
         return [f"R {x32(rate)}"] + units + ["Z"]
 
@@ -345,7 +403,7 @@ class Generator:
         offset = 0.0 if rng.random() < 0.4 else self.buffer_time(frames, rate)
         units.append(f"S {x64(self.context_time(times, rate))} {x64(offset)} {x64(MAX)}")
         units.append(f"L {rng.randint(0, 1)}")
-        speed = (1.0, 1.0) if rng.random() < 0.5 else self.speed()
+        speed = self.plain() if rng.random() < 0.5 else self.speed()
         units += [self.block(t, *speed) for t in times]
         return [f"R {x32(rate)}"] + units + ["Z"]
 
@@ -363,8 +421,7 @@ class Generator:
                 units.append(later.pop(rng.randrange(len(later))))
             if rng.random() < 0.1:
                 units.append(self.refused(times))
-            if rng.random() < 0.12:
-                speed = self.speed()
+            speed = self.speed() if rng.random() < 0.12 else self.next_speed(*speed)
             units.append(self.block(t, *speed))
             if rng.random() < 0.1:
                 units.append("Z")

@@ -2,6 +2,7 @@
 //! the original with everything else.
 mod bench;
 mod buffers;
+mod cents;
 mod player;
 mod positions;
 mod print;
@@ -10,6 +11,7 @@ mod text;
 
 use crate::render::Alloc;
 use buffers::{convert, copy_from, copy_to, extend, split, Shape};
+use cents::Entries;
 use player::Player;
 use print::{bits, calculated, flag, put_f64, put_runs};
 use std::io::{Read, Write};
@@ -44,8 +46,15 @@ impl Call {
     }
 }
 
+/// What a block is detuned by: the factor itself, or whole cents.
+enum Detune {
+    Factor(f64),
+    Cents(i32),
+}
+
 struct Machine {
     alloc: Alloc,
+    entries: Entries,
     player: Option<Player>,
     call: Option<Call>,
     words: Vec<u32>,
@@ -57,6 +66,7 @@ impl Machine {
     fn new() -> Self {
         Machine {
             alloc: Alloc::with_capacity(32),
+            entries: Entries::new(),
             player: None,
             call: None,
             words: Vec::new(),
@@ -102,7 +112,8 @@ impl Machine {
         match words.word() {
             b"R" => self.fresh(line),
             b"C" | b"KF" | b"KT" | b"J" | b"V" | b"Q" => self.begin(line),
-            b"B" => self.block(words),
+            b"B" => self.block(words, |w| Ok(Detune::Factor(w.f64()?))),
+            b"D" => self.block(words, |w| Ok(Detune::Cents(w.i32()?))),
             b"Z" if words.ended() => self.show(),
             b"S" | b"T" | b"P" | b"E" | b"L" => self.message(line),
             _ => Err(0),
@@ -194,16 +205,20 @@ impl Machine {
         }
     }
 
-    fn block(&mut self, mut w: Words<'_>) -> Result<(), Refusal> {
+    fn block(&mut self, mut w: Words<'_>, detune: fn(&mut Words) -> Result<Detune, Refusal>) -> Result<(), Refusal> {
         let player = self.player.as_mut().ok_or(0)?;
         let expected = player.shape.map_or(0, Shape::words);
-        let (time, rate, factor) = (w.f64()?, w.f32()?, w.f64()?);
+        let (time, rate, detune) = (w.f64()?, w.f32()?, detune(&mut w)?);
         let output = if w.ended() { OUTPUT } else { w.decimal()? };
         let samples = if w.ended() { expected } else { w.decimal()? };
         check(w.ended(), 0)?;
         check(output <= OUTPUT_TEXT_MAX && samples <= SAMPLES_TEXT_MAX, 0)?;
         check(output == OUTPUT, 8)?;
         row_13_block_time(time, player.last)?;
+        let factor = match detune {
+            Detune::Factor(factor) => factor,
+            Detune::Cents(cents) => self.entries.factor(cents)?,
+        };
         row_14_rates(rate, factor)?;
         check(samples == expected, 1)?;
         let Ok(keep) = catch_unwind(AssertUnwindSafe(|| player.process(time, rate, factor))) else {
@@ -272,6 +287,7 @@ pub fn main() {
     let arguments: Vec<String> = std::env::args().skip(1).collect();
     match arguments.iter().map(String::as_str).collect::<Vec<_>>()[..] {
         ["bench"] => return bench::main(),
+        ["factors"] => return cents::main(),
         ["positions", count] => return positions::main(count.parse().expect("a count")),
         _ => (),
     }

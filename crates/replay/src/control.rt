@@ -1,6 +1,8 @@
 // The lines that the player obeys.
 use super::orders::BLOCK;
 use super::orders::BLOCK_SAMPLES;
+use super::orders::CENTS;
+use super::orders::CENTS_SAMPLES;
 use super::orders::CLIP;
 use super::orders::RATE;
 use super::print::put_channels;
@@ -10,6 +12,7 @@ use super::print::put_refusal;
 use super::scan::Numbers;
 use super::scan::f32_of;
 use super::scan::f64_of;
+use super::scan::i32_of;
 use super::scan::smaller;
 use player::BlockReport;
 use player::ControlMessage;
@@ -119,24 +122,36 @@ fn reported(player: Player, answer: Rendered, out: &[u32]) -> Player {
 
 // The length of the output that is lent, and below of the samples, where the line names them.
 fn output_length(due: usize, n: Numbers) -> usize {
-    if due == BLOCK { OUTPUT } else { n.d }
+    if due == BLOCK || due == CENTS {
+        OUTPUT
+    } else {
+        n.d
+    }
 }
 
 fn samples_length(due: usize, n: Numbers, clip: usize) -> usize {
-    if due == BLOCK_SAMPLES { n.e } else { clip }
+    if due == BLOCK_SAMPLES || due == CENTS_SAMPLES {
+        n.e
+    } else {
+        clip
+    }
 }
 
-// `B` lines.
+// A block by a factor, or in cents.
+fn rendered(p: Player, due: usize, n: Numbers, samples: &[u32], out: &mut [u32]) -> Rendered {
+    let time = f64_of(n.a);
+    let rate = f32_of(n.b);
+    if due < CENTS {
+        return p.process(out, samples, time, rate, f64_of(n.c));
+    }
+    cents::process_cents(p, out, samples, time, rate, i32_of(n.c))
+}
+
+// `B` and `D` lines.
 pub fn block(m: Machine, due: usize, n: Numbers, clip: &[u32], out: &mut [u32]) -> Machine {
     let j = smaller(output_length(due, n), out.len());
     let k = smaller(samples_length(due, n, m.clip), clip.len());
-    let answer = m.player.process(
-        &mut out[..j],
-        &clip[..k],
-        f64_of(n.a),
-        f32_of(n.b),
-        f64_of(n.c),
-    );
+    let answer = rendered(m.player, due, n, &clip[..k], &mut out[..j]);
     Machine {
         player: reported(m.player, answer, out),
         made: true,

@@ -5,7 +5,7 @@ use super::calls::answered;
 use super::control::Machine;
 use super::control::block;
 use super::control::told;
-use super::orders::BLOCK_SAMPLES;
+use super::orders::CENTS_SAMPLES;
 use super::orders::CLIP;
 use super::orders::Order;
 use super::orders::due;
@@ -81,7 +81,7 @@ fn obeyed(m: Machine, order: Order, clip: &mut [u32], words: &[u32], first: &mut
         let len = smaller(order.wanted, words.len());
         return told(m, due, n, &words[..len], clip);
     }
-    if due <= BLOCK_SAMPLES {
+    if due <= CENTS_SAMPLES {
         return block(m, due, n, clip, first);
     }
     let len = smaller(order.wanted, words.len());

@@ -37,25 +37,31 @@ pub const BLOCK_OUTPUT: usize = 9;
 
 pub const BLOCK_SAMPLES: usize = 10;
 
-pub const SHOW: usize = 11;
+pub const CENTS: usize = 11;
 
-pub const COPY_FROM: usize = 12;
+pub const CENTS_OUTPUT: usize = 12;
 
-pub const COPY_TO: usize = 13;
+pub const CENTS_SAMPLES: usize = 13;
 
-pub const EXTEND: usize = 14;
+pub const SHOW: usize = 14;
 
-pub const SPLIT: usize = 15;
+pub const COPY_FROM: usize = 15;
 
-pub const CONVERT: usize = 16;
+pub const COPY_TO: usize = 16;
+
+pub const EXTEND: usize = 17;
+
+pub const SPLIT: usize = 18;
+
+pub const CONVERT: usize = 19;
 
 // A line that is none of these; a call whose shape is outside the limits; a call whose words are
 // not all there, or nothing.
-pub const UNKNOWN: usize = 17;
+pub const UNKNOWN: usize = 20;
 
-pub const BAD_SHAPE: usize = 18;
+pub const BAD_SHAPE: usize = 21;
 
-pub const WAITING: usize = 19;
+pub const WAITING: usize = 22;
 
 // The room for a copy's destination; the protocol allows 16,777,216.
 const LEN_MAX: usize = 262_144;
@@ -92,9 +98,9 @@ pub fn size(channels: usize, frames: usize) -> usize
 // The words that an order waits for.
 fn wanted(kind: usize, n: Numbers) -> usize {
     match kind {
-        7 | 12 | 15 | 16 => size(n.a, n.b),
-        13 => size(n.a, n.b) + smaller(n.e, LEN_MAX),
-        14 => size(n.a, n.b) + size(n.d, n.e),
+        7 | 15 | 18 | 19 => size(n.a, n.b),
+        16 => size(n.a, n.b) + smaller(n.e, LEN_MAX),
+        17 => size(n.a, n.b) + size(n.d, n.e),
         _ => 0,
     }
 }
@@ -102,9 +108,9 @@ fn wanted(kind: usize, n: Numbers) -> usize {
 // Whether a length that the line names is above its bound.
 fn is_too_long(kind: usize, n: Numbers, room: usize) -> bool {
     match kind {
-        9 => n.d > OUTPUT_MAX,
-        10 => n.d > OUTPUT_MAX || n.e > room,
-        12 | 13 => n.e > LEN_MAX,
+        9 | 12 => n.d > OUTPUT_MAX,
+        10 | 13 => n.d > OUTPUT_MAX || n.e > room,
+        15 | 16 => n.e > LEN_MAX,
         _ => false,
     }
 }
@@ -171,7 +177,7 @@ fn matched(line: &[u8], forms: &[u8]) -> Known {
 fn order_of(line: &[u8]) -> Known {
     matched(
         line,
-        b"R w\nS f f f\nT f\nP f\nE f\nL 0\nL 1\nC d d w\nB f w f\nB f w f d\nB f w f d d\nZ\nKF d d d d d\nKT d d d d d\nJ d d w d d w\nV d d w d\nQ d d w w\n",
+        b"R w\nS f f f\nT f\nP f\nE f\nL 0\nL 1\nC d d w\nB f w f\nB f w f d\nB f w f d d\nD f w w\nD f w w d\nD f w w d d\nZ\nKF d d d d d\nKT d d d d d\nJ d d w d d w\nV d d w d\nQ d d w w\n",
     )
 }
 

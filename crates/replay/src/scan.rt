@@ -186,3 +186,12 @@ pub fn bits_of(value: usize) -> u32 {
 pub fn f32_of(value: usize) -> f32 {
     rounding::from_pattern(bits_of(value))
 }
+
+// The number of these 32 bits in two's complement.
+pub fn i32_of(value: usize) -> i32 {
+    let bits = bits_of(value);
+    if bits < 0x8000_0000 {
+        return bits as i32;
+    }
+    !((0xffff_ffff - bits) as i32)
+}

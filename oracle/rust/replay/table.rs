@@ -1,5 +1,5 @@
-//! Document 01's table 'Where a call is turned down'. A refusal is the row's number; 0 is a line that isn't
-//! one of the protocol's.
+//! Document 01's table 'Where a call is turned down', and document 02's row 16. A refusal is the row's number;
+//! 0 is a line that isn't one of the protocol's.
 use super::buffers::Shape;
 
 pub type Refusal = u8;
@@ -48,4 +48,8 @@ pub fn row_14_rates(rate: f32, factor: f64) -> Result<(), Refusal> {
         rate.is_finite() && (1.0 / FACTOR_MAX..=FACTOR_MAX).contains(&factor),
         14,
     )
+}
+
+pub fn row_16_cents(cents: i32) -> Result<(), Refusal> {
+    check((-12_000..=12_000).contains(&cents), 16)
 }

@@ -32,6 +32,10 @@ impl<'a> Words<'a> {
         hex32(self.word()).map(f32::from_bits).ok_or(0)
     }
 
+    pub fn i32(&mut self) -> Result<i32, u8> {
+        hex32(self.word()).map(|bits| bits as i32).ok_or(0)
+    }
+
     pub fn f64(&mut self) -> Result<f64, u8> {
         hex64(self.word())
     }

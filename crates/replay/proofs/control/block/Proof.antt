@@ -19,26 +19,17 @@ samples-length-requires c κs = search needs
 smaller-requires-2 : tie.Need-smaller-requires-2
 smaller-requires-2 c κs = search needs
 
-slice-relend-prefix-process : tie.Need-slice-relend-prefix-process
-slice-relend-prefix-process c = search needs
+slice-aggregate-rendered : tie.Need-slice-aggregate-rendered
+slice-aggregate-rendered c = sym (length-take-le _ _ (omega arith))
 
-slice-aggregate-process : tie.Need-slice-aggregate-process
-slice-aggregate-process c = sym (length-take-le _ _ (omega arith))
+slice-relend-prefix-rendered : tie.Need-slice-relend-prefix-rendered
+slice-relend-prefix-rendered c = search needs
 
-slice-aggregate-process-2 : tie.Need-slice-aggregate-process-2
-slice-aggregate-process-2 c = sym (length-take-le _ _ (omega arith))
+slice-aggregate-rendered-2 : tie.Need-slice-aggregate-rendered-2
+slice-aggregate-rendered-2 c = sym (length-take-le _ _ (omega arith))
 
-f64-of-requires : tie.Need-f64-of-requires
-f64-of-requires c κs = search needs
-
-f32-of-requires : tie.Need-f32-of-requires
-f32-of-requires c κs = search needs
-
-f64-of-requires-2 : tie.Need-f64-of-requires-2
-f64-of-requires-2 c κs = search needs
-
-process-requires : tie.Need-process-requires
-process-requires c κs = search needs
+rendered-requires : tie.Need-rendered-requires
+rendered-requires c κs = search needs
 
 reported-requires : tie.Need-reported-requires
 reported-requires c κs = search needs
@@ -57,13 +48,10 @@ block-spec =
     smaller-requires
     samples-length-requires
     smaller-requires-2
-    slice-relend-prefix-process
-    slice-aggregate-process
-    slice-aggregate-process-2
-    f64-of-requires
-    f32-of-requires
-    f64-of-requires-2
-    process-requires
+    slice-aggregate-rendered
+    slice-relend-prefix-rendered
+    slice-aggregate-rendered-2
+    rendered-requires
     reported-requires
     same-length
     returns)
