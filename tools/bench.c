@@ -1,5 +1,6 @@
 /* The runs of `replay bench` (oracle/rust/replay/bench.rs), of ours, and memcpy as the limit: lines `name ns`.
-   Blocks are called from Rattle (crates/player_c), as the Rust's from Rust, and once more through the C library: names with `-c`. */
+   Blocks are called from Rattle (crates/player_c), as the Rust's from Rust, and once more through the C library: names with `-c`, and
+   with `-cents` where the call is the one in cents, at 0 of them. */
 #include <math.h>
 #include <netthimble.h>
 #include <stdio.h>
@@ -55,23 +56,27 @@ static double from_rattle(size_t channels, size_t frames, bool looped, float rat
     return (now() - t) / BLOCKS;
 }
 
-static double from_c(size_t channels, size_t frames, bool looped, float rate, const uint32_t *words) {
+static double from_c(size_t channels, size_t frames, bool looped, float rate, const uint32_t *words, bool cents) {
     netthimble_player p = begun(channels, frames, looped, words);
     double t = now();
-    for (size_t n = 0; n < BLOCKS; n++)
-        must(netthimble_player_process(&p, out, 4096, words, channels * frames, (double)(128 * n) / RATE, rate, 1.0).refusal);
+    for (size_t n = 0; n < BLOCKS; n++) {
+        double time = (double)(128 * n) / RATE;
+        if (cents) must(netthimble_player_process_cents(&p, out, 4096, words, channels * frames, time, rate, 0).refusal);
+        else must(netthimble_player_process(&p, out, 4096, words, channels * frames, time, rate, 1.0).refusal);
+    }
     return (now() - t) / BLOCKS;
 }
 
 static void block(const char *name, size_t channels, bool looped, float rate, bool noise) {
     size_t frames = looped ? 1000 : 128 * (BLOCKS + 2);
     uint32_t *words = frames_of(channels * frames, noise);
-    double rattle = 1e300, c = 1e300;
+    double rattle = 1e300, c = 1e300, cents = 1e300;
     for (int turn = 0; turn < 3; turn++) {
         rattle = fmin(rattle, from_rattle(channels, frames, looped, rate, words));
-        c = fmin(c, from_c(channels, frames, looped, rate, words));
+        c = fmin(c, from_c(channels, frames, looped, rate, words, false));
+        cents = fmin(cents, from_c(channels, frames, looped, rate, words, true));
     }
-    printf("%s-%zu %.0f\n%s-%zu-c %.0f\n", name, channels, rattle, name, channels, c);
+    printf("%s-%zu %.1f\n%s-%zu-c %.1f\n%s-%zu-cents %.1f\n", name, channels, rattle, name, channels, c, name, channels, cents);
     free(words);
 }
 
