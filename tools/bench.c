@@ -1,6 +1,6 @@
 /* The runs of `replay bench` (oracle/rust/replay/bench.rs), of ours, and memcpy as the limit: lines `name ns`.
    Blocks are called from Rattle (crates/player_c), as the Rust's from Rust, and once more through the C library: names with `-c`, and
-   with `-cents` where the call is the one in cents, at 0 of them. */
+   with `-cents` where the call is the one in cents: at 0 of them, and below at others. */
 #include <math.h>
 #include <netthimble.h>
 #include <stdio.h>
@@ -56,15 +56,39 @@ static double from_rattle(size_t channels, size_t frames, bool looped, float rat
     return (now() - t) / BLOCKS;
 }
 
-static double from_c(size_t channels, size_t frames, bool looped, float rate, const uint32_t *words, bool cents) {
-    netthimble_player p = begun(channels, frames, looped, words);
-    double t = now();
+/* Blocks of a player through the C library: by the factor of the cents, or in cents. */
+static double blocks_of(netthimble_player p, const uint32_t *words, size_t len, float rate, int32_t cents, bool in_cents) {
+    double factor = netthimble_factor(cents).factor, t = now();
     for (size_t n = 0; n < BLOCKS; n++) {
         double time = (double)(128 * n) / RATE;
-        if (cents) must(netthimble_player_process_cents(&p, out, 4096, words, channels * frames, time, rate, 0).refusal);
-        else must(netthimble_player_process(&p, out, 4096, words, channels * frames, time, rate, 1.0).refusal);
+        if (in_cents) must(netthimble_player_process_cents(&p, out, 4096, words, len, time, rate, cents).refusal);
+        else must(netthimble_player_process(&p, out, 4096, words, len, time, rate, factor).refusal);
     }
     return (now() - t) / BLOCKS;
+}
+
+static double from_c(size_t channels, size_t frames, bool looped, float rate, const uint32_t *words, bool in_cents) {
+    return blocks_of(begun(channels, frames, looped, words), words, channels * frames, rate, 0, in_cents);
+}
+
+/* One channel, looped, at other cents; or silent, since its start lies past every block. */
+static void detuned(const char *name, bool silent, float rate, int32_t cents) {
+    size_t frames = 1000;
+    uint32_t *words = frames_of(frames, true);
+    netthimble_player p = begun(1, frames, true, words);
+    if (silent) {
+        netthimble_told made = netthimble_new(RATE);
+        p = made.player;
+        must(netthimble_player_set_buffer(&p, 1, frames, RATE, words, frames));
+        must(netthimble_player_start(&p, 1e6, 0.0, NETTHIMBLE_NEVER));
+    }
+    double c = 1e300, in_cents = 1e300;
+    for (int turn = 0; turn < 3; turn++) {
+        c = fmin(c, blocks_of(p, words, frames, rate, cents, false));
+        in_cents = fmin(in_cents, blocks_of(p, words, frames, rate, cents, true));
+    }
+    printf("%s-c %.1f\n%s-cents %.1f\n", name, c, name, in_cents);
+    free(words);
 }
 
 static void block(const char *name, size_t channels, bool looped, float rate, bool noise) {
@@ -103,6 +127,10 @@ static void blocks(void) {
     for (int kind = 0; kind < 4; kind++)
         for (int c = 0; c < 4; c++) block(names[kind], counts[c], kind % 2, kind < 2 ? 1.0f : 0.75f, true);
     block("subsample-whole-numbers", 32, false, 0.75f, false);
+    detuned("aligned-at-1200-cents", false, 0.5f, 1200);
+    detuned("subsample-at-50-cents", false, 1.0f, 50);
+    detuned("silent-at-0-cents", true, 1.0f, 0);
+    detuned("silent-at-50-cents", true, 1.0f, 50);
     for (int c = 0; c < 4; c++) limit(counts[c]);
 }
 
