@@ -7,8 +7,12 @@ use lib.Dec.{eqb}
 use lib.IntN.{ℤ}
 use lib.ListN.{length}
 use lib.Ieee.{Float}
+use Rattle.buffer.specs.Refusals.{CENTS}
+use Rattle.seconds.specs.Seconds.{one}
 use Rattle.detune.specs.Detune.{badCents, factorOf}
-use Rattle.player.specs.Block.{checks, plan, reportOf, written}
+use Rattle.detune.specs.declared.Detune.{Detune}
+use Rattle.detune.specs.declared.Detune.the-variants.{By, Refused as Refused′}
+use Rattle.player.specs.Block.{checks, plan, isSilent, reportOf, written}
 use Rattle.player.specs.declared.Player.{Player}
 use Rattle.player.specs.declared.Rendered.{Rendered}
 use Rattle.player.specs.declared.Rendered.the-variants.{Block, Refused}
@@ -27,3 +31,7 @@ outputCents n p out samples time rate cents =
     cond (eqb (centsRefusal n p (length out) (length samples) time rate cents) 0)
     (written n (q .sample) (p .shape .frames) samples out (q .channels))
     out
+
+-- what a block in cents asks of the factor: nothing where it is silent (any factor would do, and 1 is handed on), else the factor of the cents
+unfoldable pub factoredAt : ℕ → Player → Float → ℤ → Detune
+factoredAt n p time cents = cond (badCents cents) (Refused′ CENTS) (By (cond (isSilent n p time) one (factorOf cents)))

@@ -29,6 +29,11 @@ unfolding badCents above
 index (pos n) h = omega arith
 index (negsuc n) h = let t = leb-false 12000 n h in omega (arith, t)
 
+pub under : (z : ℤ) → above z < 1200
+unfolding above
+under (pos n) = omega arith
+under (negsuc n) = omega arith
+
 eighth : (e a b : ℕ) → e * 2 ^ a * (2 ^ 30 * 2 ^ b) ≡ e * 2 ^ (a + b) * 2 ^ 30
 eighth e a b = rw (pow-add 2 a b) (mul-assoc e (2 ^ a) (2 ^ 30 * 2 ^ b) ∙ ap (λ (x : ℕ). e * x) (ap (λ (x : ℕ). 2 ^ a * x) (mul-comm (2 ^ 30) (2 ^ b)) ∙ sym (mul-assoc (2 ^ a) (2 ^ b) (2 ^ 30))) ∙ sym (mul-assoc e (2 ^ a * 2 ^ b) (2 ^ 30)))
 

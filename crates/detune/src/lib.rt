@@ -2,7 +2,7 @@
 ghost use mathlib.Core.Path.{_≡_};
 ghost use Prim.Native.Nat.{_<_};
 ghost use Rattle.detune.specs.Counted.{counted};
-ghost use Rattle.detune.specs.Detune.{entry, factored};
+ghost use Rattle.detune.specs.Detune.{entry, badCents, factored};
 ghost use Rattle.detune.specs.Statement.{TheTable, Exact};
 
 mod table;
@@ -38,6 +38,13 @@ fn counted(cents: i32) -> usize
         return 24_001;
     }
     (cents + 12_000) as usize
+}
+
+// Cents outside −12,000 to 12,000.
+pub fn is_bad_cents(cents: i32) -> bool
+    ensures { λ r. ⌜ r ≡ badCents cents ⌝ }
+{
+    counted(cents) > 24_000
 }
 
 // The factor, or 16 for cents outside −12,000 to 12,000. Counted from 10 octaves below, the octaves

@@ -5,11 +5,12 @@ ghost use mathlib.Core.Path.{_≡_};
 ghost use lib.ListN.{length};
 ghost use Rattle.player.specs.Messages.{handled, buffered};
 ghost use Rattle.player.specs.Block.{rendered, output};
-ghost use Rattle.detune.specs.Detune.{factored};
+ghost use Rattle.cents.specs.Cents.{factoredAt};
 ghost use Rattle.lent.specs.Lent.{afterCall, afterBlock, factorFor, inCents};
 ghost use Rattle.lent.specs.Nobody.{noShape, nobody, NobodyPlays};
 use buffer::Shape;
 use buffer::refusals;
+use cents::factor_at;
 use detune::Detune;
 use player::ControlMessage;
 use player::Handled;
@@ -132,10 +133,10 @@ pub fn factor_for(detune: Detune) -> Factored
     }
 }
 
-// The factor of whole cents. No cents, at which a block may be quick, are told here, where they cost
-// no call.
-pub fn factor_of(cents: i32) -> Factored
-    ensures { λ r. ⌜ r ≡ factorFor (factored cents) ⌝ }
+// The factor that a block in cents asks for. No cents, at which a block may be quick, are told here,
+// where they cost no call.
+pub fn factor_of(p: Player, time: f64, cents: i32) -> Factored
+    ensures { λ r. ⌜ r ≡ factorFor (factoredAt 128 p time cents) ⌝ }
 {
     if cents == 0 {
         return Factored {
@@ -143,7 +144,7 @@ pub fn factor_of(cents: i32) -> Factored
             refusal: 0,
         };
     }
-    factor_for(detune::factor(cents))
+    factor_for(factor_at(p, time, cents))
 }
 
 // The answer of a block that was played with the factor of refused cents.

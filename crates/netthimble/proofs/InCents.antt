@@ -1,4 +1,4 @@
--- A block played with the factor of cents is the block in cents: of good cents as it stands, and of bad ones, whose factor no block accepts, once its
+-- A block played with the factor that cents ask for is the block in cents: of good cents as it stands, and of bad ones, whose factor no block accepts, once its
 -- refusal is the cents'. Assumes nothing.
 use mathlib.Core.Path.{_≡_, refl, sym, ap, _∙_, subst}
 use mathlib.Core.Bool.{Bool, true, false, not, _||_, cond}
@@ -10,13 +10,16 @@ use lib.ListN.{length}
 use lib.Ieee.{Float, binary64, ofBits, le}
 use lib.Ieee.Scale.{finite}
 use Rattle.buffer.specs.Refusals.{LENGTH, TIME, SPEED, CENTS}
-use Rattle.detune.specs.Detune.{badCents, factorOf, factored}
-use Rattle.detune.specs.declared.Detune.the-variants.{By, Refused as Refused′}
-use Rattle.player.specs.Block.{refusal, badBlockTime, badRate, rendered, output}
+use Rattle.detune.specs.Detune.{badCents, factorOf}
+use Rattle.detune.specs.declared.Detune.{Detune}
+use Rattle.detune.specs.declared.Detune.the-variants.{By}
+use Rattle.seconds.specs.Seconds.{one}
+use Rattle.player.specs.Block.{isSilent, refusal, badBlockTime, badRate, rendered, output}
 use Rattle.player.specs.declared.Player.{Player}
 use Rattle.player.specs.declared.Rendered.the-variants.{Refused}
-use Rattle.cents.specs.Cents.{renderedCents, outputCents}
-use Rattle.cents.proofs.Same.{same-answer, same-output, refused, unwritten}
+use Rattle.cents.specs.Cents.{renderedCents, outputCents, factoredAt}
+use Rattle.cents.proofs.Same.{refused, unwritten}
+use Rattle.cents.proofs.Silent.{at-refused, at-answer, at-output}
 use Rattle.lent.specs.Lent.{afterBlock, factorFor, inCents}
 use Rattle.lent.specs.declared.Blocked.{Blocked}
 use Rattle.lent.specs.declared.Factored.{Factored}
@@ -56,10 +59,10 @@ module _ (p : Player) (out samples : List ℕ) (time rate : Float) (cents : ℤ)
       (played factor .player ≡ asked .player) × (output 128 p out samples time rate factor ≡ outputCents 128 p out samples time rate cents)
       × (T (eqb number 0) → played factor .answer ≡ asked .answer) × (T (not (eqb number 0)) → inCents (played factor .answer) ≡ asked .answer)
 
-  good : badCents cents ≡ false → Same (factorOf cents) 0
-  good is =
-      let e : played (factorOf cents) ≡ asked = ap (afterBlock p) (sym (same-answer 128 p time rate cents is (length out) (length samples))) in
-      (ap (λ (r : Blocked). r .player) e, sym (same-output 128 p time rate cents is out samples), (λ _. ap (λ (r : Blocked). r .answer) e), (λ z. absurd z))
+  good : (factor : Float) → factoredAt 128 p time cents ≡ By factor → Same factor 0
+  good factor is =
+      let e : played factor ≡ asked = ap (afterBlock p) (sym (at-answer 128 p time rate cents factor is (length out) (length samples))) in
+      (ap (λ (r : Blocked). r .player) e, sym (at-output 128 p time rate cents factor is out samples), (λ _. ap (λ (r : Blocked). r .answer) e), (λ z. absurd z))
 
   abbrev long : Bool
   long = not (eqb (length out) (32 * 128))
@@ -83,13 +86,20 @@ module _ (p : Player) (out samples : List ℕ) (time rate : Float) (cents : ℤ)
         (λ _. ap (λ (r : Blocked). inCents (r .answer)) e ∙ renamed p long (badBlockTime p time) ∙ sym (ap (λ (r : Blocked). r .answer) f)),
       )
 
-  of-cents : Same (factorFor (factored cents) .factor) (factorFor (factored cents) .refusal)
-  unfolding factorFor factored
+  handed : badCents cents ≡ false → factoredAt 128 p time cents ≡ By (cond (isSilent 128 p time) one (factorOf cents))
+  unfolding factoredAt
+  handed is = rw is
+
+  abbrev Of : Detune → Type 0
+  Of d = Same (factorFor d .factor) (factorFor d .refusal)
+
+  of-cents : Of (factoredAt 128 p time cents)
+  unfolding factorFor
   of-cents = go (badCents cents) refl
     where
-      go : (b : Bool) → badCents cents ≡ b → Same (factorFor (cond b (Refused′ CENTS) (By (factorOf cents))) .factor) (factorFor (cond b (Refused′ CENTS) (By (factorOf cents))) .refusal)
-      go true is = bad is
-      go false is = good is
+      go : (b : Bool) → badCents cents ≡ b → Of (factoredAt 128 p time cents)
+      go true is = subst Of (sym (at-refused 128 p time cents is)) (bad is)
+      go false is = subst Of (sym (handed is)) (good _ (handed is))
 
-  pub same : (g : Factored) → g ≡ factorFor (factored cents) → Same (g .factor) (g .refusal)
+  pub same : (g : Factored) → g ≡ factorFor (factoredAt 128 p time cents) → Same (g .factor) (g .refusal)
   same g e = subst (λ (f : Factored). Same (f .factor) (f .refusal)) (sym e) of-cents

@@ -123,8 +123,8 @@ pub extern "C" fn netthimble_factor(cents: i32) -> Factored
     factor_for(detune::factor(cents))
 }
 
-// Renders a block into the lent output, detuned by whole cents: the block call itself, with their
-// factor. So the player's code stands in the library once.
+// Renders a block into the lent output, detuned by whole cents: the block call itself, with the
+// factor that it asks for. So the player's code stands in the library once.
 #[no_mangle]
 pub extern "C" fn netthimble_player_process_cents(
     p: &mut Player,
@@ -141,7 +141,7 @@ pub extern "C" fn netthimble_player_process_cents(
         ≡ afterBlock (now (p .entry)) (renderedCents 128 (now (p .entry)) (length (now (out .entry))) (length (now (samples .entry))) time rate cents) .player)
         × (now (out .exit) ≡ outputCents 128 (now (p .entry)) (now (out .entry)) (now (samples .entry)) time rate cents) ⌝ }
 {
-    let f = factor_of(cents);
+    let f = factor_of(*p, time, cents);
     if f.refusal == 0 {
         return netthimble_player_process(p, out, samples, time, rate, f.factor);
     }

@@ -156,6 +156,10 @@ plan n p time rate factor =
     (cond (isAligned n p time computed) (alignedPlan n p time computed)
     (subSamplePlan n p time rate computed)))))
 
+-- a block at this time is silent: the cases of `plan` that look at neither rate nor factor
+unfoldable pub isSilent : ℕ → Player → Float → Bool
+isSilent n p time = p .«render_state» .ended || not (p .«has_buffer») || le (blockEnd n time (p .«sample_rate»)) (p .«start_time» .0)
+
 -- ---- refusals, by the output's and the samples' lengths
 
 -- 2 ^ 30 seconds

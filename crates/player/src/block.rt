@@ -9,7 +9,7 @@ ghost use Rattle.lists.specs.Table.{table};
 ghost use Rattle.lists.specs.Parts.{put};
 ghost use Rattle.player.specs.Record.{renderOf, moved};
 ghost use Rattle.player.specs.Reports.{reportFrom};
-ghost use Rattle.player.specs.Block.{silent, idle, computedRate, hasEnded, alignedPlan, subSamplePlan, plan};
+ghost use Rattle.player.specs.Block.{silent, idle, computedRate, hasEnded, alignedPlan, subSamplePlan, plan, isSilent};
 ghost use Rattle.player.specs.Block.{badSamples, reportOf, rendered, written, output};
 use super::BlockReport;
 use super::Player;
@@ -205,6 +205,19 @@ impl Player {
         ensures { λ r. ⌜ r ≡ (self .«render_state» .ended || not (self .«has_buffer») && ne (self .«start_time» .0) never) ⌝ }
     {
         self.render_state.ended || self.lacks_buffer()
+    }
+
+    // A silent block, which looks at neither rate nor factor.
+    pub fn is_silent(self, time: f64) -> bool
+        ensures { λ r. ⌜ r ≡ isSilent 128 self time ⌝ }
+    {
+        if self.render_state.ended {
+            return true;
+        }
+        if !self.has_buffer {
+            return true;
+        }
+        self.start_time.0 >= block_end(time, self.sample_rate)
     }
 
     // A block that no row of the table refuses, in the Rust's order of cases.

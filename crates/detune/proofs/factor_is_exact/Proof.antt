@@ -11,15 +11,10 @@ use lib.Ieee.Exact.{HasValue}
 use lib.Ieee.Fits.{round-fits}
 use Rattle.detune.specs.Table.{entries}
 use Rattle.detune.specs.Detune.{entry, octaves, above, badCents, factorOf}
-use Rattle.detune.proofs.Quotient.{exact}
+use Rattle.detune.proofs.Quotient.{under, exact}
 use Rattle.detune.proofs.Rule.{entry-below}
 use Rattle.detune.proofs.factor_is_exact.Statement.{statement}
 use Rattle.detune.proofs.factor_is_exact.Tie as tie
-
-under : (z : ℤ) → above z < 1200
-unfolding above
-under (pos n) = omega arith
-under (negsuc n) = omega arith
 
 parts : (z : ℤ) → z ≡ pos 1200 *ℤ octaves z +ℤ pos (above z)
 unfolding octaves above
