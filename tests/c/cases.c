@@ -290,6 +290,39 @@ static void refused_cents(void) {
     CHECK((b = netthimble_player_process_cents(&p, out + 1, 4096, samples, 6, 0, 1, 12001)).refusal == 13);
 }
 
+/* A silent block in cents asks for no factor, and is the block by their factor all the same: without a clip, before the start and at its
+ * very end, after the end, and at a rate that is no number. Bad cents are refused of silent players too. */
+static void silent_cents(void) {
+    int32_t cents[] = {0, 50, -1, 1200, -12000, 12001, INT32_MIN};
+    uint32_t *samples = lent(6, 0), *out = lent(4096, 7), *by_factor = lent(4096, 7);
+    netthimble_player silent[4];
+    CHECK(netthimble_player_new(&silent[0], 48000.0f) == 0);
+    silent[1] = silent[0];
+    CHECK(netthimble_player_start(&silent[1], 0, 0, NETTHIMBLE_NEVER) == 0);
+    silent[2] = silent[0];
+    CHECK(netthimble_player_set_buffer(&silent[2], 2, 3, 48000.0f, samples, 6) == 0);
+    CHECK(netthimble_player_start(&silent[2], 128 / 48000.0, 0, NETTHIMBLE_NEVER) == 0);
+    silent[3] = silent[2];
+    CHECK(netthimble_player_stop(&silent[3], 0) == 0);
+    CHECK(netthimble_player_process(&silent[3], out, 4096, samples, 6, 0, 1, 1).ended);
+    for (size_t i = 0; i < 4; i++) {
+        for (size_t k = 0; k < sizeof cents / sizeof *cents; k++) {
+            for (int n = 0; n < 2; n++) {
+                netthimble_player p = silent[i], q = p;
+                netthimble_factored f = netthimble_factor(cents[k]);
+                float rate = n == 0 ? 1.0f : NAN;
+                double time = i < 3 ? 0 : 1;
+                size_t len = i < 2 ? 0 : 6;
+                netthimble_block a = netthimble_player_process_cents(&p, out, 4096, samples, len, time, rate, cents[k]);
+                netthimble_block b = netthimble_player_process(&q, by_factor, 4096, samples, len, time, rate, f.factor);
+                if (f.refusal) b.refusal = NETTHIMBLE_CENTS;
+                CHECK(a.refusal == (f.refusal ? f.refusal : n == 0 ? 0 : 14));
+                CHECK(same_answer(a, b) && same(&p, &q) && memcmp(out, by_factor, 4 * 4096) == 0);
+            }
+        }
+    }
+}
+
 /* ---- clips and buffers */
 
 static void clips(void) {
@@ -390,6 +423,7 @@ int main(void) {
     factors();
     cents_blocks();
     refused_cents();
+    silent_cents();
     clips();
     copies();
     buffers();

@@ -114,8 +114,7 @@ pub extern "C" fn netthimble_player_process(
     r.answer
 }
 
-// The factor of a detune in whole cents. (Not by `factor_of`, which stays small while the table's
-// code has another caller.)
+// The factor of a detune in whole cents.
 #[no_mangle]
 pub extern "C" fn netthimble_factor(cents: i32) -> Factored
     ensures { λ r. ⌜ r ≡ factorFor (factored cents) ⌝ }
