@@ -1,24 +1,24 @@
 // The lines that the player obeys.
-use super::orders::BLOCK;
-use super::orders::BLOCK_SAMPLES;
-use super::orders::CENTS;
-use super::orders::CENTS_SAMPLES;
-use super::orders::CLIP;
-use super::orders::RATE;
-use super::print::put_channels;
-use super::print::put_form;
-use super::print::put_line;
-use super::print::put_refusal;
-use super::scan::Numbers;
-use super::scan::f32_of;
-use super::scan::f64_of;
-use super::scan::i32_of;
-use super::scan::smaller;
 use player::BlockReport;
 use player::ControlMessage;
 use player::Handled;
 use player::Player;
 use player::Rendered;
+use protocol::orders::BLOCK;
+use protocol::orders::BLOCK_SAMPLES;
+use protocol::orders::CENTS;
+use protocol::orders::CENTS_SAMPLES;
+use protocol::orders::CLIP;
+use protocol::orders::RATE;
+use protocol::print::put_channels;
+use protocol::print::put_form;
+use protocol::print::put_line;
+use protocol::print::put_refusal;
+use protocol::scan::Numbers;
+use protocol::scan::f32_of;
+use protocol::scan::f64_of;
+use protocol::scan::i32_of;
+use protocol::scan::smaller;
 
 const OUTPUT: usize = 4_096;
 

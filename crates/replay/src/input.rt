@@ -5,16 +5,16 @@ use super::calls::answered;
 use super::control::Machine;
 use super::control::block;
 use super::control::told;
-use super::orders::CENTS_SAMPLES;
-use super::orders::CLIP;
-use super::orders::Order;
-use super::orders::due;
-use super::orders::heard;
-use super::orders::line_end;
-use super::orders::nothing;
-use super::scan::smaller;
 use libc::STDIN_FILENO;
 use player::Player;
+use protocol::orders::CENTS_SAMPLES;
+use protocol::orders::CLIP;
+use protocol::orders::Order;
+use protocol::orders::due;
+use protocol::orders::heard;
+use protocol::orders::line_length;
+use protocol::orders::nothing;
+use protocol::scan::smaller;
 
 // A line stands at from..end of a piece of input that is filled up to `to`: wholly, unless the input
 // ends there. No line is left where `from` is `to`.
@@ -54,7 +54,7 @@ fn refilled(piece: &mut [u8], from: usize, to: usize) -> Reading
     let filled = kept + got;
     Reading {
         from: 0,
-        end: line_end(piece, 0, filled),
+        end: line_length(piece, 0, filled),
         to: filled,
     }
 }
@@ -66,7 +66,7 @@ fn next(r: Reading, piece: &mut [u8]) -> Reading
 {
     let to = r.to;
     let from = smaller(r.end + 1, to);
-    let end = line_end(piece, from, to);
+    let end = from + line_length(piece, from, to);
     if end < to || to < piece.len() {
         return Reading { from, end, to };
     }

@@ -5,9 +5,6 @@
 mod calls;
 mod control;
 mod input;
-mod orders;
-mod print;
-mod scan;
 
 use calls::room;
 use player::Handled;
