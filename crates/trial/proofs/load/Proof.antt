@@ -6,35 +6,14 @@ use borrow.Author.Needs.{needs}
 use Rattle.trial.proofs.load.Statement.{statement}
 use Rattle.trial.proofs.load.Tie as tie
 
-read-clip-requires : tie.Need-read-clip-requires
-read-clip-requires c κs = search needs
-
-enum-known-header : tie.Need-enum-known-header
-enum-known-header c = search needs
-
-enum-told : tie.Need-enum-told
-enum-told c = search needs
-
-read-clip-requires-2 : tie.Need-read-clip-requires-2
-read-clip-requires-2 c κs = search needs
-
-refusal-of-requires : tie.Need-refusal-of-requires
-refusal-of-requires c κs = search needs
+sample-count-requires : tie.Need-sample-count-requires
+sample-count-requires c κs = search needs
 
 refuse-requires : tie.Need-refuse-requires
 refuse-requires c κs = search needs
 
 returns : tie.Need-returns
 returns c = search needs
-
-frame-words-requires : tie.Need-frame-words-requires
-frame-words-requires c κs = search needs
-
-refuse-requires-2 : tie.Need-refuse-requires-2
-refuse-requires-2 c κs = search needs
-
-returns-2 : tie.Need-returns-2
-returns-2 c = search needs
 
 slice-relend-prefix-read-frames : tie.Need-slice-relend-prefix-read-frames
 slice-relend-prefix-read-frames c = search needs
@@ -45,20 +24,8 @@ slice-aggregate-read-frames c = sym (length-take-le _ _ (omega arith))
 read-frames-requires : tie.Need-read-frames-requires
 read-frames-requires c κs = search needs
 
-enum-known-answer : tie.Need-enum-known-answer
-enum-known-answer c = search needs
-
-refuse-requires-3 : tie.Need-refuse-requires-3
-refuse-requires-3 c κs = search needs
-
-same-length : tie.Need-same-length
-same-length c = search needs
-
-returns-3 : tie.Need-returns-3
-returns-3 c = search needs
-
-enum-told-2 : tie.Need-enum-told-2
-enum-told-2 c = search needs
+enum-known-header : tie.Need-enum-known-header
+enum-known-header c = search needs
 
 slice-reshare-prefix-start : tie.Need-slice-reshare-prefix-start
 slice-reshare-prefix-start c = search needs
@@ -69,48 +36,41 @@ slice-aggregate-start c = sym (length-take-le _ _ (omega arith))
 start-requires : tie.Need-start-requires
 start-requires c κs = search needs
 
+enum-known-number : tie.Need-enum-known-number
+enum-known-number c = search needs
+
+refuse-requires-2 : tie.Need-refuse-requires-2
+refuse-requires-2 c κs = search needs
+
+same-length : tie.Need-same-length
+same-length c = search needs
+
+returns-2 : tie.Need-returns-2
+returns-2 c = search needs
+
 same-length-2 : tie.Need-same-length-2
 same-length-2 c = search needs
 
-same-length-3 : tie.Need-same-length-3
-same-length-3 c = search needs
-
-same-length-4 : tie.Need-same-length-4
-same-length-4 c = search needs
-
-same-length-5 : tie.Need-same-length-5
-same-length-5 c = search needs
-
-returns-4 : tie.Need-returns-4
-returns-4 c = search needs
+returns-3 : tie.Need-returns-3
+returns-3 c = search needs
 
 pub load-spec : {M : Type 1} → statement M
 load-spec =
     tie.close
     (tie.spec
-    read-clip-requires
-    enum-known-header
-    enum-told
-    read-clip-requires-2
-    refusal-of-requires
+    sample-count-requires
     refuse-requires
     returns
-    frame-words-requires
-    refuse-requires-2
-    returns-2
     slice-relend-prefix-read-frames
     slice-aggregate-read-frames
     read-frames-requires
-    enum-known-answer
-    refuse-requires-3
-    same-length
-    returns-3
-    enum-told-2
+    enum-known-header
     slice-reshare-prefix-start
     slice-aggregate-start
     start-requires
+    enum-known-number
+    refuse-requires-2
+    same-length
+    returns-2
     same-length-2
-    same-length-3
-    same-length-4
-    same-length-5
-    returns-4)
+    returns-3)
