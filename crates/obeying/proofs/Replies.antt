@@ -128,6 +128,11 @@ block-turned-down samples s words number next a after out outAfter is wrote up r
     )
 
 -- ---- a line is its command
+-- one that sends a message, by the message that the code made
+pub message-as : (samples : List ℕ) (s : Session) (words line : List ℕ) (k : Command) (m n : ControlMessage) → command line ≡ k
+    → done samples s words k ≡ outcome (sent s n) words → m ≡ n → done samples s words (command line) ≡ outcome (sent s m) words
+message-as samples s words line k m n is does same = rw (is, same) does
+
 module _ (samples : List ℕ) (s : Session) (words line out : List ℕ) where
   pub line-as : (k : Command) (o : Outcome) (a : Answer) (after text : List ℕ) → command line ≡ k → done samples s words k ≡ o
       → a ≡ answerOf (o .reply) → after ≡ o .words → text ≡ sets out 0 (o .reply .text)

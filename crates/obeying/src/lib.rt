@@ -58,20 +58,17 @@ fn refuse(session: Session, number: u32, out: &mut [u8]) -> Answer
 }
 
 // Sends a control message.
-fn tell(session: Session, message: ControlMessage, out: &mut [u8]) -> Answer
+fn tell(mut session: Session, message: ControlMessage, out: &mut [u8]) -> Answer
     requires { ⌜ blockRoom ≤ length (now out) ⌝ }
     ensures { λ r. ⌜ (r ≡ answerOf (sent session message)) × (now (out .exit) ≡ sets (now (out .entry)) 0 (sent session message .text)) ⌝ }
 {
-    let player = session.player;
-    match player.handle_control_message(message) {
-        Handled::Done(next) => Answer {
-            session: Session {
-                player: next,
-                number: session.number,
-            },
-            printed: 0,
-        },
-        Handled::Refused(number) => refuse(session, number, out),
+    match session.player.handle_control_message(message) {
+        Handled::Done(next) => session.player = next,
+        Handled::Refused(number) => return refuse(session, number, out),
+    }
+    Answer {
+        session,
+        printed: 0,
     }
 }
 
@@ -94,43 +91,31 @@ fn block_time(session: Session) -> f64
 }
 
 // Renders a block into `words`, and prints it.
-fn play(session: Session, samples: &[u32], words: &mut [u32], out: &mut [u8]) -> Answer
+fn play(mut session: Session, samples: &[u32], words: &mut [u32], out: &mut [u8]) -> Answer
     requires { ⌜ blockRoom ≤ length (now out) ⌝ }
     ensures { λ r. ⌜ (let reply = played (now (samples .entry)) session (now (words .entry)) in
         (r ≡ answerOf reply) × (now (words .exit) ≡ playedWords (now (samples .entry)) session (now (words .entry)))
         × (now (out .exit) ≡ sets (now (out .entry)) 0 (reply .text))) ⌝ }
 {
-    let player = session.player;
     let number = session.number;
-    let next = counted(number) + 1;
-    match player.process(words, samples, block_time(session), 1.0, 1.0) {
+    let time = block_time(session);
+    session.number = counted(number) + 1;
+    let printed = match session.player.process(words, samples, time, 1.0, 1.0) {
         Rendered::Block(report) => {
             let left = report.player;
-            let printed = bytes_of(text::block_text(
+            session.player = left;
+            bytes_of(text::block_text(
                 number,
                 report.keep_alive,
                 report.ended,
                 report.channels,
                 words,
                 out,
-            ));
-            Answer {
-                session: Session {
-                    player: left,
-                    number: next,
-                },
-                printed,
-            }
+            ))
         }
-        Rendered::Refused(refusal) => refuse(
-            Session {
-                player,
-                number: next,
-            },
-            refusal,
-            out,
-        ),
-    }
+        Rendered::Refused(refusal) => return refuse(session, refusal, out),
+    };
+    Answer { session, printed }
 }
 
 // Obeys a line where there is room for what it prints.
@@ -145,27 +130,22 @@ fn obey_line(
     ensures { λ r. ⌜ (let o = obeyed (now (samples .entry)) session (now (words .entry)) (now (line .entry)) in
         (r ≡ answerOf (o .reply)) × (now (words .exit) ≡ o .words) × (now (out .exit) ≡ sets (now (out .entry)) 0 (o .reply .text))) ⌝ }
 {
-    match commands::read_command(line) {
-        Command::Start(when, offset, duration) => tell(
-            session,
+    let message = match commands::read_command(line) {
+        Command::Start(when, offset, duration) => {
             ControlMessage::Start(
                 from_pattern_f64(when),
                 from_pattern_f64(offset),
                 from_pattern_f64(duration),
-            ),
-            out,
-        ),
-        Command::Stop(when) => tell(session, ControlMessage::Stop(from_pattern_f64(when)), out),
-        Command::LoopStart(at) => tell(
-            session,
-            ControlMessage::LoopStart(from_pattern_f64(at)),
-            out,
-        ),
-        Command::LoopEnd(at) => tell(session, ControlMessage::LoopEnd(from_pattern_f64(at)), out),
-        Command::Loop(on) => tell(session, ControlMessage::Loop(on), out),
-        Command::Block => play(session, samples, words, out),
-        Command::Unknown => refuse(session, 0, out),
-    }
+            )
+        }
+        Command::Stop(when) => ControlMessage::Stop(from_pattern_f64(when)),
+        Command::LoopStart(at) => ControlMessage::LoopStart(from_pattern_f64(at)),
+        Command::LoopEnd(at) => ControlMessage::LoopEnd(from_pattern_f64(at)),
+        Command::Loop(on) => ControlMessage::Loop(on),
+        Command::Block => return play(session, samples, words, out),
+        Command::Unknown => return refuse(session, 0, out),
+    };
+    tell(session, message, out)
 }
 
 // Obeys a line: `samples` are the clip's, `words` takes the block, and `out` what is printed.

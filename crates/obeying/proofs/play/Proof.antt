@@ -5,14 +5,14 @@ use borrow.Author.Needs.{needs}
 use Rattle.obeying.proofs.play.Statement.{statement}
 use Rattle.obeying.proofs.play.Tie as tie
 
+block-time-requires : tie.Need-block-time-requires
+block-time-requires c κs = search needs
+
 counted-requires : tie.Need-counted-requires
 counted-requires c κs = search needs
 
-add-next : tie.Need-add-next
-add-next c = search needs
-
-block-time-requires : tie.Need-block-time-requires
-block-time-requires c κs = search needs
+add-session : tie.Need-add-session
+add-session c = search needs
 
 process-requires : tie.Need-process-requires
 process-requires c κs = search needs
@@ -40,18 +40,9 @@ same-length-2 c = search needs
 
 returns : tie.Need-returns
 returns c =
-    let e = called (c .before .before .before .before .before .before .before .before .before .before .before .before .before .before .before .before .before .before .before .before .args .samples .now)
-    (c .before .before .before .before .before .before .before .before .before .before .before .before .before .before .before .before .before .before .before .before .args .session)
-    (c .before .before .before .before .before .before .before .before .before .before .before .before .before .before .before .before .before .before .before .before .args .words .now) _ _ _
-    (c .before .before .before .before .before .before .before .before .before .before .before .before .before .block-time .ensures)
-    (c .before .before .before .before .before .before .before .before .before .before .before .before .process .ensures .0)
-    (c .before .before .before .before .before .before .before .before .before .before .before .before .process .ensures .1) in
-    block-printed _ _ _ _ _ _ _ _ _ _
-    (c .before .before .before .before .before .before .before .before .before .before .before .before .before .before .before .before .before .before .before .before .pre)
-    (e .0 ∙ c .before .before .before .before .before .before .before .before .report .given .1) (e .1)
-    (c .before .before .before .before .before .before .before .before .before .before .before .before .process .kept .1 .0)
-    (c .before .before .before .before .before .before .before .before .before .before .before .before .before .before .before .counted .ensures) (c .bytes-of .ensures)
-    (c .before .before .before .block-text .ensures .0) (c .before .before .before .block-text .ensures .1)
+    let e = called (c .before .before .before .before .before .before .before .before .before .before .before .before .before .before .before .before .args .samples .now) (c .before .before .before .before .before .before .before .before .before .before .before .before .before .before .before .before .args .session) (c .before .before .before .before .before .before .before .before .before .before .before .before .before .before .before .before .args .words .now) _ _ _
+    (c .before .before .before .before .before .before .before .before .before .before .before .before .block-time .ensures) (c .before .before .before .before .before .before .before .before .before .process .ensures .0) (c .before .before .before .before .before .before .before .before .before .process .ensures .1) in
+    block-turned-down _ _ _ _ _ _ _ _ _ (e .0 ∙ c .before .before .before .before .before .refusal .given .1) (e .1) (c .before .before .before .before .before .before .before .before .before .before .before .counted .ensures) (c .before .before .refuse .ensures .0) (c .before .before .refuse .ensures .1)
 
 same-length-3 : tie.Need-same-length-3
 same-length-3 c = search needs
@@ -61,20 +52,18 @@ same-length-4 c = search needs
 
 returns-2 : tie.Need-returns-2
 returns-2 c =
-    let e = called (c .before .before .before .before .before .before .before .before .before .before .before .before .before .before .before .before .before .args .samples .now)
-    (c .before .before .before .before .before .before .before .before .before .before .before .before .before .before .before .before .before .args .session)
-    (c .before .before .before .before .before .before .before .before .before .before .before .before .before .before .before .before .before .args .words .now) _ _ _
-    (c .before .before .before .before .before .before .before .before .before .before .block-time .ensures)
-    (c .before .before .before .before .before .before .before .before .before .process .ensures .0) (c .before .before .before .before .before .before .before .before .before .process .ensures .1) in
-    block-turned-down _ _ _ _ _ _ _ _ _ (e .0 ∙ c .before .before .before .before .before .refusal .given .1) (e .1) (c .before .before .before .before .before .before .before .before .before .before .before .before .counted .ensures) (c .before .before .refuse .ensures .0) (c .before .before .refuse .ensures .1)
+    let e = called (c .before .before .before .before .before .before .before .before .before .before .before .before .before .before .before .before .before .before .before .args .samples .now) (c .before .before .before .before .before .before .before .before .before .before .before .before .before .before .before .before .before .before .before .args .session) (c .before .before .before .before .before .before .before .before .before .before .before .before .before .before .before .before .before .before .before .args .words .now) _ _ _
+    (c .before .before .before .before .before .before .before .before .before .before .before .before .before .before .before .block-time .ensures) (c .before .before .before .before .before .before .before .before .before .before .before .before .process .ensures .0) (c .before .before .before .before .before .before .before .before .before .before .before .before .process .ensures .1) in
+    block-printed _ _ _ _ _ _ _ _ _ _ (c .before .before .before .before .before .before .before .before .before .before .before .before .before .before .before .before .before .before .before .pre) (e .0 ∙ c .before .before .before .before .before .before .before .before .report .given .1) (e .1) (c .before .before .before .before .before .before .before .before .before .before .before .before .process .kept .1 .0)
+    (c .before .before .before .before .before .before .before .before .before .before .before .before .before .before .counted .ensures) (c .bytes-of .ensures) (c .before .before .before .block-text .ensures .0) (c .before .before .before .block-text .ensures .1)
 
 pub play-spec : {M : Type 1} → statement M
 play-spec =
     tie.close
     (tie.spec
-    counted-requires
-    add-next
     block-time-requires
+    counted-requires
+    add-session
     process-requires
     enum-known-report
     block-text-requires

@@ -19,18 +19,18 @@ enum-known-number c = search needs
 refuse-requires : tie.Need-refuse-requires
 refuse-requires c κs = search needs
 
-returns : tie.Need-returns
-returns c =
-    let e = message-done _ _ _ (sym (c .before .before .before .handle-control-message .ensures) ∙ c .before .next .given .1) in
-    (ap answerOf (sym e), ap (λ (r : Reply). sets (c .before .before .before .before .before .before .args .out .now) 0 (r .text)) (sym e))
-
 same-length : tie.Need-same-length
 same-length c = search needs
 
+returns : tie.Need-returns
+returns c =
+    let e = message-refused (c .before .before .before .before .before .before .before .before .before .args .session) (c .before .before .before .before .before .before .before .before .before .args .message) _ (sym (c .before .before .before .before .before .before .before .handle-control-message .ensures) ∙ c .before .before .before .before .before .number .given .1) in
+    (c .before .before .refuse .ensures .0 ∙ ap answerOf (sym e), c .before .before .refuse .ensures .1 ∙ ap (λ (r : Reply). sets (c .before .before .before .before .before .before .before .before .before .args .out .now) 0 (r .text)) (sym e))
+
 returns-2 : tie.Need-returns-2
 returns-2 c =
-    let e = message-refused (c .before .before .before .before .before .before .before .before .before .before .args .session) (c .before .before .before .before .before .before .before .before .before .before .args .message) _ (sym (c .before .before .before .before .before .before .before .handle-control-message .ensures) ∙ c .before .before .before .before .before .number .given .1) in
-    (c .before .before .refuse .ensures .0 ∙ ap answerOf (sym e), c .before .before .refuse .ensures .1 ∙ ap (λ (r : Reply). sets (c .before .before .before .before .before .before .before .before .before .before .args .out .now) 0 (r .text)) (sym e))
+    let e = message-done (c .before .before .before .before .before .args .session) (c .before .before .before .before .before .args .message) _ (sym (c .before .before .before .handle-control-message .ensures) ∙ c .before .next .given .1) in
+    (ap answerOf (sym e), ap (λ (r : Reply). sets (c .before .before .before .before .before .args .out .now) 0 (r .text)) (sym e))
 
 pub tell-spec : {M : Type 1} → statement M
 tell-spec =
@@ -40,6 +40,6 @@ tell-spec =
     enum-known-next
     enum-known-number
     refuse-requires
-    returns
     same-length
+    returns
     returns-2)
