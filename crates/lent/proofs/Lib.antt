@@ -1,4 +1,6 @@
--- What the proofs of `lent` share; those of `netthimble` cite the answers and the choice.
+-- What the proofs of `lent` share; those of the libraries for C cite the answers, the choice, the walk of a block over a lent player, and what a block leaves.
 pub mod Answers
 pub mod Choice
+pub mod Lent
+pub mod Moved
 mod Mute

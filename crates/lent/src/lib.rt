@@ -5,12 +5,11 @@ ghost use mathlib.Core.Path.{_≡_};
 ghost use lib.ListN.{length};
 ghost use Rattle.player.specs.Messages.{handled, buffered};
 ghost use Rattle.player.specs.Block.{rendered, output};
-ghost use Rattle.cents.specs.Cents.{factoredAt};
-ghost use Rattle.lent.specs.Lent.{afterCall, afterBlock, factorFor, inCents};
+ghost use Rattle.cents.specs.Cents.{renderedCents, outputCents};
+ghost use Rattle.lent.specs.Lent.{afterCall, afterBlock, factorFor};
 ghost use Rattle.lent.specs.Nobody.{noShape, nobody, NobodyPlays};
 use buffer::Shape;
-use buffer::refusals;
-use cents::factor_at;
+use cents::process_cents;
 use detune::Detune;
 use player::ControlMessage;
 use player::Handled;
@@ -121,6 +120,20 @@ pub fn block_by_value(
     after_block(p, p.process(out, samples, time, rate, factor))
 }
 
+pub fn cents_by_value(
+    p: Player,
+    out: &mut [u32],
+    samples: &[u32],
+    time: f64,
+    rate: f32,
+    cents: i32,
+) -> Blocked
+    ensures { λ r. ⌜ (r ≡ afterBlock p (renderedCents 128 p (length (now (out .entry))) (length (now (samples .entry))) time rate cents))
+        × (now (out .exit) ≡ outputCents 128 p (now (out .entry)) (now (samples .entry)) time rate cents) ⌝ }
+{
+    after_block(p, process_cents(p, out, samples, time, rate, cents))
+}
+
 pub fn factor_for(detune: Detune) -> Factored
     ensures { λ r. ⌜ r ≡ factorFor detune ⌝ }
 {
@@ -130,38 +143,6 @@ pub fn factor_for(detune: Detune) -> Factored
             factor: 0.0,
             refusal,
         },
-    }
-}
-
-// The factor that a block in cents asks for. No cents, at which a block may be quick, are told here,
-// where they cost no call.
-pub fn factor_of(p: Player, time: f64, cents: i32) -> Factored
-    ensures { λ r. ⌜ r ≡ factorFor (factoredAt 128 p time cents) ⌝ }
-{
-    if cents == 0 {
-        return Factored {
-            factor: 1.0,
-            refusal: 0,
-        };
-    }
-    factor_for(factor_at(p, time, cents))
-}
-
-// The answer of a block that was played with the factor of refused cents.
-pub fn in_cents(answer: BlockAnswer) -> BlockAnswer
-    ensures { λ r. ⌜ r ≡ inCents answer ⌝ }
-{
-    let position = answer.position;
-    let mut refusal = answer.refusal;
-    if refusal == refusals::SPEED {
-        refusal = refusals::CENTS;
-    }
-    BlockAnswer {
-        position,
-        channels: answer.channels,
-        refusal,
-        keep_alive: answer.keep_alive,
-        ended: answer.ended,
     }
 }
 

@@ -1,4 +1,4 @@
--- `netthimble::playing::netthimble_player_process` meets its contract: it is one of the functions of `proofs/Lent.antt`, with the factor for its last parameter. Assumes nothing.
+-- `netthimble::playing::netthimble_player_process` meets its contract: it is one of the functions of `lent/proofs/Lent.antt`, with the factor for its last parameter. Assumes nothing.
 use lib.ListN.{length}
 use lib.Ieee.{Float, binary64}
 use mir.Syntax.{tyFloat}
@@ -11,8 +11,8 @@ use Rattle.player.specs.Block.{rendered, output}
 use Rattle.lent.specs.Lent.{afterBlock}
 use Rattle.lent.proofs.block_by_value.Symbol as core-def
 use Rattle.lent.proofs.block_by_value.Met as core-thm
-use Rattle.netthimble.proofs.Lent.{One, Answers, lent-meets}
-use Rattle.netthimble.proofs.Moved.{leaves}
+use Rattle.lent.proofs.Lent.{One, Answers, lent-meets}
+use Rattle.lent.proofs.Moved.{leaves}
 use Rattle.netthimble.proofs.playing.netthimble_player_process.Key.{name}
 use Rattle.netthimble.proofs.playing.netthimble_player_process.Statement as stated
 use Rattle.netthimble.proofs.playing.netthimble_player_process.Code as code

@@ -52,16 +52,16 @@ use denote.Triple.Table.{entered, cited}
 use denote.Triple.Walked.{says, Stays, stay-ref, gave-slice, stay-none-slice, stay-none, walkOf, AllGo, goes-none, goes-none-slice, goes-gave-slice, goes-ref, Walks, ends-at, walked, walk-meets}
 use denote.Exit.{yes}
 use Rattle.player.specs.declared.Player.{Player}
 use Rattle.lent.specs.declared.Blocked.{Blocked}
 use Rattle.lent.specs.declared.BlockAnswer.{BlockAnswer}
 use Rattle.player.proofs.Player as T
 use Rattle.player.proofs.Player.Laws as T′
 use Rattle.lent.proofs.Blocked as R
 use Rattle.lent.proofs.Blocked.Laws as R′
 use Rattle.lent.proofs.BlockAnswer as N
 use Rattle.lent.proofs.BlockAnswer.Laws as N′
 use Rattle.lent.proofs.Answers.{vals, spelled}
-use Rattle.netthimble.proofs.Moved.{movedTo}
+use Rattle.lent.proofs.Moved.{movedTo}
 
 -- a plain type of one machine value (`denote.Plain`): what it owns holds no resource, and tells that value
 pub record One : Type 1 where
