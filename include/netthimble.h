@@ -236,6 +236,13 @@ netthimble_factored netthimble_factor(int32_t cents);
  * they were. */
 netthimble_block netthimble_player_process_cents(netthimble_player *player, uint32_t *out, size_t out_len, const uint32_t *samples, size_t samples_len, double time, float rate, int32_t cents);
 
+/* Renders the coming block into a second output: answers and writes what netthimble_player_process would on a copy of *player, which stays as
+ * it is. Refused as that call is, 8 being about this output: 8, 13, 14, 1; `out` is then as it was. */
+netthimble_block netthimble_player_preview(const netthimble_player *player, uint32_t *out, size_t out_len, const uint32_t *samples, size_t samples_len, double time, float rate, double factor);
+
+/* The same of netthimble_player_process_cents. Refused: 8, 13, 16, 14, 1; `out` is then as it was. */
+netthimble_block netthimble_player_preview_cents(const netthimble_player *player, uint32_t *out, size_t out_len, const uint32_t *samples, size_t samples_len, double time, float rate, int32_t cents);
+
 /* ---- the clip file */
 
 /* What a clip file's header says. Refused: 15, 1, 2. */

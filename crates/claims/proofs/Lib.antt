@@ -1,4 +1,4 @@
--- The road to the long-run statement, and blocks in cents.
+-- The road to the long-run statement; blocks in cents and previews.
 pub mod Order
 pub mod Units
 pub mod Position
@@ -16,3 +16,4 @@ pub mod Run
 pub mod Conclude
 pub mod Whole
 pub mod Longer
+pub mod Unseen

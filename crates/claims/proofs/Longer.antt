@@ -1,6 +1,6 @@
--- Blocks in cents among the calls of demand 3: an accepted one is the block with its factor, a refused one leaves everything. Assumes nothing.
+-- Blocks in cents among the calls of demand 3: an accepted one is the block with its factor, a refused one leaves everything, and so does a preview. Assumes nothing.
 use mathlib.Core.Path.{_≡_, refl, sym, ap, _∙_}
-use mathlib.Core.Bool.{Bool, true, false, not, cond, true≢false, false≢true}
+use mathlib.Core.Bool.{Bool, true, false, not, _&&_, cond, true≢false, false≢true}
 use mathlib.Core.List.{List, [], _∷_}
 use Prim.Native.Nat.{ℕ}
 use lib.Dec.{T, eqb}
@@ -16,7 +16,7 @@ use Rattle.player.specs.declared.Rendered.the-variants.{Block, Refused}
 use Rattle.cents.specs.Cents.{centsRefusal, renderedCents, outputCents}
 use Rattle.cents.proofs.Same.{same-answer, same-output, refused}
 use Rattle.claims.specs.Calls.{Call, block, typed, allTyped, isBlock, next}
-use Rattle.claims.specs.Longer.{LongerCall, plain, inCents, typedLonger, allTypedLonger, Outcome, outcome, outcomeLonger, outcomes, isLeftOut, asCall, replaced, kept}
+use Rattle.claims.specs.Longer.{LongerCall, plain, inCents, preview, previewInCents, typedLonger, allTypedLonger, Outcome, outcome, outcomeLonger, outcomes, isLeftOut, asCall, replaced, kept}
 
 module _ (p : Player) (out samples : List ℕ) (time rate : Float) (cents : ℤ) where
   abbrev call : LongerCall
@@ -56,10 +56,14 @@ module _ (p : Player) (out samples : List ℕ) (time rate : Float) (cents : ℤ)
 left-alone : (p : Player) (c : LongerCall) → isLeftOut p c ≡ true → outcomeLonger p c .player ≡ p
 left-alone p (plain c) l = absurd (false≢true l)
 left-alone p (inCents out samples time rate cents) l = unmoved p out samples time rate cents l .0
+left-alone p (preview out samples time rate factor) l = refl
+left-alone p (previewInCents out samples time rate cents) l = refl
 
 as-call : (p : Player) (c : LongerCall) → isLeftOut p c ≡ false → outcomeLonger p c ≡ outcome p (asCall c)
 as-call p (plain c) l = refl
 as-call p (inCents out samples time rate cents) l = as-block p out samples time rate cents (accepted-cents p out samples time rate cents l)
+as-call p (preview out samples time rate factor) l = absurd (false≢true (sym l))
+as-call p (previewInCents out samples time rate cents) l = absurd (false≢true (sym l))
 
 step : (p : Player) (c : LongerCall) (calls : List Call) (given : List Outcome) (b : Bool) → isLeftOut p c ≡ b → outcomes (outcomeLonger p c .player) calls ≡ given
     → outcomes p (cond b calls (asCall c ∷ calls)) ≡ cond b given (outcomeLonger p c ∷ given)
@@ -74,11 +78,16 @@ same p (c ∷ cs) = let q = outcomeLonger p c .player in step p c (replaced q cs
 
 -- the list so replaced is typed, as each factor is an f64
 module _ (held : (cents : ℤ) → T (fits binary64 (factorOf cents))) where
-  typed-call : (c : LongerCall) → T (typedLonger c) → T (typed (asCall c))
-  typed-call (plain c) t = t
-  typed-call (inCents out samples time rate cents) t =
+  typed-cents : (out samples : List ℕ) (time rate : Float) (cents : ℤ) → T (fits binary64 time && fits binary32 rate) → T (typed (block out samples time rate (factorOf cents)))
+  typed-cents out samples time rate cents t =
       and-i (fits binary64 time) _ (and-l (fits binary64 time) (fits binary32 rate) t)
       (and-i (fits binary32 rate) (fits binary64 (factorOf cents)) (and-r (fits binary64 time) (fits binary32 rate) t) (held cents))
+
+  typed-call : (c : LongerCall) → T (typedLonger c) → T (typed (asCall c))
+  typed-call (plain c) t = t
+  typed-call (inCents out samples time rate cents) t = typed-cents out samples time rate cents t
+  typed-call (preview out samples time rate factor) t = t
+  typed-call (previewInCents out samples time rate cents) t = typed-cents out samples time rate cents t
 
   typed-step : (c : LongerCall) (calls : List Call) (b : Bool) → T (typedLonger c) → T (allTyped calls) → T (allTyped (cond b calls (asCall c ∷ calls)))
   typed-step c calls true t rest = rest

@@ -1,4 +1,4 @@
--- Lists of calls that meet the premises of the long-run statement, and one with blocks in cents. Definitions only.
+-- Lists of calls that meet the premises of the long-run statement, one with blocks in cents, and one with previews. Definitions only.
 use mathlib.Core.Path.{_≡_}
 use mathlib.Core.Bool.{Bool, true, false}
 use mathlib.Core.List.{List, [], _∷_}
@@ -8,12 +8,15 @@ use lib.IntN.{ℤ, pos, negsuc}
 use lib.ListN.{length, replicate}
 use lib.Ieee.{Float, fin, binary32, fits}
 use Rattle.buffer.specs.Limits.{validRate}
+use Rattle.buffer.specs.Refusals.{LENGTH, CENTS}
 use Rattle.seconds.specs.Seconds.{none, never, one}
 use Rattle.player.specs.Record.{fresh}
 use Rattle.player.specs.declared.ControlMessage.the-variants.{Start, Stop, Loop}
 use Rattle.claims.specs.Calls.{Call, buffer, message, block, allTyped, accepted, playing}
 use Rattle.claims.specs.LongRun.{Premises}
-use Rattle.claims.specs.Longer.{LongerCall, plain, inCents, allTypedLonger, replaced}
+use Rattle.claims.specs.Longer.{LongerCall, plain, inCents, preview, previewInCents, allTypedLonger, replaced, unlooked}
+use Rattle.preview.specs.Preview.{previewed, previewedCents}
+use Rattle.preview.specs.declared.Previewed.the-variants.{Refused}
 
 -- 48,000 = 375 × 2 ^ 7, and three frames: 1.0, 2.0, 3.0
 abbrev pub rate : Float
@@ -60,6 +63,27 @@ longerCalls =
     plain start ∷ plain clip ∷ plain (message (Loop true)) ∷ centsAt none (pos 0) ∷ centsAt tick (pos 12001) ∷ centsAt none (pos 0)
     ∷ plain (blockAt none) ∷ centsAt tick (pos 0) ∷ []
 
+-- previews, of a block and of one in cents, lent a second output of as many words; and one lent too short an output
+abbrev pub lookAt : Float → LongerCall
+lookAt time = preview (replicate 4096 9) frames time one one
+
+abbrev pub lookInCents : Float → ℤ → LongerCall
+lookInCents time cents = previewInCents (replicate 4096 9) frames time one cents
+
+abbrev pub shortLook : Float → LongerCall
+shortLook time = preview (replicate 128 9) frames time one one
+
+-- previews at every place: before the clip and the start, before a block and after it at its time (refused by 13), with 12,001 cents (16), with a short
+-- output (8). All seven are left out.
+abbrev pub previewedCalls : List LongerCall
+previewedCalls =
+    lookAt none ∷ plain start ∷ plain clip ∷ lookInCents none (pos 50) ∷ plain (blockAt none) ∷ lookAt none ∷ lookAt tick ∷ lookInCents tick (pos 12001)
+    ∷ shortLook tick ∷ centsAt tick (pos 0) ∷ lookAt tock ∷ []
+
+-- previews alone, as they may stand between a preview and the block that it shows
+abbrev pub betweenCalls : List LongerCall
+betweenCalls = lookAt tick ∷ lookInCents none (pos 50) ∷ shortLook tock ∷ []
+
 -- the premises are met, and this many blocks are accepted
 pub record Met (calls : List Call) (blocks : ℕ) : Type 0 where
   pub single : T (fits binary32 rate)
@@ -74,5 +98,11 @@ pub record MetLonger (calls : List LongerCall) (left blocks : ℕ) : Type 0 wher
   pub leftOut : length calls ≡ left + length (replaced (fresh rate) calls)
   pub met : Met (replaced (fresh rate) calls) blocks
 
+-- the premises of the claim about previews are met: previews alone, and refused ones, by 8 and by 16
+pub record MetPreviews : Type 0 where
+  pub between : unlooked betweenCalls ≡ []
+  pub short : previewed 128 (fresh rate) 128 3 none one one ≡ Refused LENGTH
+  pub far : previewedCents 128 (fresh rate) 4096 3 none one (pos 12001) ≡ Refused CENTS
+
 abbrev pub Instances : Type 0
-Instances = Met loopedCalls 2 × Met plainCalls 2 × Met stoppedCalls 3 × MetLonger longerCalls 2 2
+Instances = Met loopedCalls 2 × Met plainCalls 2 × Met stoppedCalls 3 × MetLonger longerCalls 2 2 × MetLonger previewedCalls 7 2 × MetPreviews

@@ -3,7 +3,7 @@
 ghost use Rattle.claims.specs.Instances.{Instances};
 ghost use Rattle.claims.specs.Known.{KnownFrames};
 ghost use Rattle.claims.specs.LongRun.{LongRun};
-ghost use Rattle.claims.specs.Longer.{InCents};
+ghost use Rattle.claims.specs.Longer.{InCents, Previews};
 
 // Demand 3, for every list of calls on one fresh player.
 pub fn long_run()
@@ -16,6 +16,12 @@ pub fn blocks_in_cents()
 {
     detune::factor_is_exact();
 }
+
+// Lists with previews strewn in give what they give without them, and a preview shows what the next
+// block with its arguments gives.
+pub fn previews()
+    ensures { λ _. ⌜ Previews ⌝ }
+{}
 
 // Lists of calls that meet its premises: looped, unlooped, and with a stop.
 pub fn premises_are_met()

@@ -61,28 +61,8 @@ use Rattle.lent.proofs.Blocked.Laws as R′
 use Rattle.lent.proofs.BlockAnswer as N
 use Rattle.lent.proofs.BlockAnswer.Laws as N′
 use Rattle.lent.proofs.Answers.{vals, spelled}
+use Rattle.lent.proofs.ByValue.{One, answered, next, told, row, core-signature, core-ended, Answers, Outputs, core-clauses, makes, Samples, Core, tokens, passed, to-core, goes-core}
 use Rattle.lent.proofs.Moved.{movedTo}
-
--- a plain type of one machine value (`denote.Plain`): what it owns holds no resource, and tells that value
-pub record One : Type 1 where
-  pub Value : Type 0
-  pub coded : Coded Value
-  pub ty : Ty
-  pub own : Value → List Val → Fml
-  pub val : Value → Val
-  pub pure : (x : Value) (vs : List Val) → Pure (own x vs)
-  pub tells : (x : Value) (vs : List Val) → shadow (own x vs) → vs ≡ (val x ∷ [])
-
--- an answer's machine value
-abbrev answered : BlockAnswer → Val
-answered = LL.val N.the-type N′.the-laws
-
--- the parts of what the callee returns are a player and an answer
-next : (r : Blocked) (v : Val) → Is R.the-row r (v ∷ []) → Is T.the-row (r .player) (vals (r .player))
-next r v is = LL.owed R.the-type R′.the-laws r (v ∷ []) is .0
-
-told : (r : Blocked) (v : Val) → Is R.the-row r (v ∷ []) → Is N.the-row (r .answer) (answered (r .answer) ∷ [])
-told r v is = LL.owed R.the-type R′.the-laws r (v ∷ []) is .1 .0
 
 -- ---- the code, by the last parameter's type and the callee
 abbrev pub thin : Ty → Name → Fn
@@ -119,40 +99,19 @@ thin τ callee = record {
 
 -- ---- the signatures and the contracts, by the last parameter and by what is answered and written
 module _ (X : One) where
-  abbrev pub row : RattleType
-  row = plain-type (X .Value) (X .coded) (X .ty ∷ []) (X .own)
-
   abbrev pub signature : Signature
   signature = record {
     lifetimes = 3;
     outlives = [];
-    params = RefMut 0 tt T.the-row tt ∷ SliceRefMut 1 tt u32 tt ∷ SliceRef 2 tt u32 tt ∷ plain (λ _. f64) ∷ plain (λ _. f32) ∷ plain (λ _. row) ∷ [];
+    params = RefMut 0 tt T.the-row tt ∷ SliceRefMut 1 tt u32 tt ∷ SliceRef 2 tt u32 tt ∷ plain (λ _. f64) ∷ plain (λ _. f32) ∷ plain (λ _. row X) ∷ [];
     result = plain (λ _. N.the-row);
   }
 
   abbrev pub ended : Ended
   ended = record { signature = signature; kept = (yes, (yes, (yes, (yes, (yes, (yes, tt)))))) }
 
-  abbrev pub core-signature : Signature
-  core-signature = record {
-    lifetimes = 2;
-    outlives = [];
-    params = plain (λ _. T.the-row) ∷ SliceRefMut 0 tt u32 tt ∷ SliceRef 1 tt u32 tt ∷ plain (λ _. f64) ∷ plain (λ _. f32) ∷ plain (λ _. row) ∷ [];
-    result = plain (λ _. R.the-row);
-  }
-
-  abbrev pub core-ended : Ended
-  core-ended = record { signature = core-signature; kept = (yes, (yes, (yes, (yes, (yes, (yes, tt)))))) }
-
   abbrev stayed : Stays (ended .signature .params) (ended .kept)
-  stayed = (stay-ref (0 ∷ []) tt (plain (λ _. T.the-row)), (gave-slice (1 ∷ []) tt (plain (λ _. u32)), (stay-none-slice (2 ∷ []) tt (plain (λ _. u32)) yes, (stay-none (λ _. f64) yes, (stay-none (λ _. f32) yes, (stay-none (λ _. row) yes, tt))))))
-
--- what a block answers, and what the output then holds, by the player, the output, the samples, the time, the rate and the last argument
-abbrev pub Answers : One → Type 0
-Answers X = Player → List ℕ → List ℕ → Float → Float → X .Value → Blocked
-
-abbrev pub Outputs : One → Type 0
-Outputs X = Player → List ℕ → List ℕ → Float → Float → X .Value → List ℕ
+  stayed = (stay-ref (0 ∷ []) tt (plain (λ _. T.the-row)), (gave-slice (1 ∷ []) tt (plain (λ _. u32)), (stay-none-slice (2 ∷ []) tt (plain (λ _. u32)) yes, (stay-none (λ _. f64) yes, (stay-none (λ _. f32) yes, (stay-none (λ _. row X) yes, tt))))))
 
 -- the player that a block leaves is the one before it but for what is written back
 abbrev pub Keeps : (X : One) → Answers X → Type 0
@@ -166,21 +125,7 @@ module _ (X : One) (answer : Answers X) (output : Outputs X) {M : Type 1} (𝓤 
     ensures = λ _ r e. fact 𝓤 ((r ≡ answer (now p) (now out) (now samples) time rate last .answer) × (now (e .0) ≡ answer (now p) (now out) (now samples) time rate last .player) × (now (e .1 .0) ≡ output (now p) (now out) (now samples) time rate last));
   }
 
-  abbrev pub core-clauses : Clauses 𝓤 (core-ended X)
-  core-clauses κs (p, (out, (samples, (time, (rate, (last, _)))))) = record {
-    ghost = Unit {0};
-    requires = λ _. emp 𝓤;
-    ensures = λ _ r e. fact 𝓤 ((r ≡ answer p (now out) (now samples) time rate last) × (now (e .1 .0) ≡ output p (now out) (now samples) time rate last));
-  }
-
 module _ (X : One) (answer : Answers X) (output : Outputs X) (callee : Name) {M : Type 1} (𝓤 : URA M) (H : Heap 𝓤) (A : Atoms 𝓤) (W : Given 𝓤 H A) (lawful : Lawful 𝓤 H A (row X)) (keeps : Keeps X answer) where
-  makes : Makes 𝓤 H A (row X) (Is (row X))
-  makes = plain-makes 𝓤 H A W (X .Value) (X .coded) (X .ty ∷ []) (X .own) (X .pure)
-
-  -- the contract of the callee
-  abbrev Core : Contract 𝓤
-  Core = tripleOf 𝓤 H A (core-signature X) (closing 𝓤 H A (core-ended X) (core-clauses X answer output 𝓤))
-
   module _ (κ₀ κ₁ κ₂ : Lft) (q₀ q₁ q₂ : Share) (b o : ℕ) (γ : GName) (h : Player) (s m : RefT (List ℕ)) (time rate : Float) (last : X .Value)
       (ok-time : fits binary64 time ≡ true) (ok-rate : fits binary32 rate ≡ true) (is-last : Is (row X) last (X .val last ∷ [])) where
     abbrev x : RefT Player × (RefT (List ℕ) × (RefT (List ℕ) × (Float × (Float × (X .Value × Unit {0})))))
@@ -206,44 +151,29 @@ module _ (X : One) (answer : Answers X) (output : Outputs X) (callee : Name) {M 
     stays : (r : Blocked) → r ≡ Answer → movedTo h (r .player) ≡ r .player
     stays r e = subst (λ (y : Blocked). movedTo h (y .player) ≡ y .player) (sym e) (keeps h (now s) (now m) time rate last)
 
-    abbrev Out : Fml
-    Out = MutSlice (named 0) κ₁ u32 .own s (slice-vals s)
-
-    abbrev Samples : Fml
-    Samples = ShrSlice (named 1) κ₂ u32 .own m (slice-vals m)
-
-    abbrev tokens : Item 𝓤
-    tokens = ‵ (flft κ₁ q₁) ⊛ ‵ (flft κ₂ q₂) ⊛ ‵ ftrue
+    abbrev held : Item 𝓤
+    held = tokens X answer output 𝓤 H A κ₁ κ₂ q₁ q₂ h s m time rate last
 
     exits : (r : Blocked) (zs : List ℕ) → Is N.the-row (r .answer) (answered (r .answer) ∷ []) → (r ≡ Answer) × (zs ≡ Written) → length zs ≡ length (now s)
-        → ent 𝓤 (⋆ 𝓤 H A (‵ (fobs γ (T.the-row .coded .code (r .player))) ∷ ‵ (fbor κ₀ (Body (mem T.the-row) b o γ)) ∷ ‵ (flft κ₀ q₀) ∷ ‵ (finally u32 (name s) zs) ∷ ‵ Samples ∷ tokens ∷ []))
+        → ent 𝓤 (⋆ 𝓤 H A (‵ (fobs γ (T.the-row .coded .code (r .player))) ∷ ‵ (fbor κ₀ (Body (mem T.the-row) b o γ)) ∷ ‵ (flft κ₀ q₀) ∷ ‵ (finally u32 (name s) zs) ∷ ‵ (Samples κ₂ m) ∷ held ∷ []))
         (Post (answered (r .answer)))
     exits r zs is e l =
-        qed W (‵ (fobs γ (T.the-row .coded .code (r .player))) ∷ ‵ (fbor κ₀ (Body (mem T.the-row) b o γ)) ∷ ‵ (flft κ₀ q₀) ∷ ‵ (finally u32 (name s) zs) ∷ ‵ Samples ∷ tokens ∷ []) ∵
+        qed W (‵ (fobs γ (T.the-row .coded .code (r .player))) ∷ ‵ (fbor κ₀ (Body (mem T.the-row) b o γ)) ∷ ‵ (flft κ₀ q₀) ∷ ‵ (finally u32 (name s) zs) ∷ ‵ (Samples κ₂ m) ∷ held ∷ []) ∵
         suffices ! _ (ends-at 𝓤 H A (ended X) (stayed X) (clauses X answer output 𝓤) W (((κ₀, (κ₁, (κ₂, tt))), (q₀, (q₁, (q₂, tt))), tt, x, at), tt) (answered (r .answer)) (r .answer) (r .player, (zs, (tt, (tt, (tt, (tt, tt)))))) (tt, (l, (tt, (tt, (tt, (tt, tt))))))) $
         says ! (ap (λ (z : Blocked). z .answer) (e .0), ap (λ (z : Blocked). z .player) (e .0), e .1) $ move ! (2 ∷ 5 ∷ []) $ join ! $ frame ! $
-        nothing ! $ owned ! (row X) (Is (row X)) makes last _ is-last $ fjoin ! $ owned ! f32 (Is f32) (float-makes 𝓤 H A W binary32) rate _ (refl, ok-rate) $ fjoin ! $ owned ! f64 (Is f64) (float-makes 𝓤 H A W binary64) time _ (refl, ok-time) $ fjoin ! $ move ! (4 ∷ 0 ∷ []) $ fjoin ! $ move ! (3 ∷ 0 ∷ []) $ fjoin ! $
+        nothing ! $ owned ! (row X) (Is (row X)) (makes X 𝓤 H A W) last _ is-last $ fjoin ! $ owned ! f32 (Is f32) (float-makes 𝓤 H A W binary32) rate _ (refl, ok-rate) $ fjoin ! $ owned ! f64 (Is f64) (float-makes 𝓤 H A W binary64) time _ (refl, ok-time) $ fjoin ! $ move ! (4 ∷ 0 ∷ []) $ fjoin ! $ move ! (3 ∷ 0 ∷ []) $ fjoin ! $
         move ! (1 ∷ 2 ∷ []) $ feqI ! (List Val) (vptr b o ∷ []) (vptr b o ∷ []) refl $ fjoin3 ! $ fjoin ! $
         owned ! N.the-row (Is N.the-row) (LL.makes N.the-type N′.the-plain 𝓤 H A) (r .answer) _ is $ move ! (1 ∷ 0 ∷ []) $ done !
 
     -- what is passed to the callee
-    abbrev passed : Player × (RefT (List ℕ) × (RefT (List ℕ) × (Float × (Float × (X .Value × Unit {0})))))
-    passed = (h, (s, (m, (time, (rate, (last, tt))))))
+    abbrev handed : Core X answer output 𝓤 H A .Ghost
+    handed = to-core X answer output 𝓤 H A κ₁ κ₂ q₁ q₂ h s m time rate last
 
-    abbrev to-core : Core .Ghost
-    to-core = (((κ₁, (κ₂, tt)), (q₁, (q₂, tt)), tt, passed, (vals h, (slice-vals s, (slice-vals m, (vfloat binary64 time ∷ [], (vfloat binary32 rate ∷ [], (X .val last ∷ [], tt))))))), tt)
-
-    goes-core : Is T.the-row h (vals h) → ent 𝓤 (sep 𝓤 (mean 𝓤 H A tokens) (sep 𝓤 (sem 𝓤 H A Out) (sem 𝓤 H A Samples))) (Core .pre to-core)
-    goes-core was =
-        qed W (tokens ∷ ‵ Out ∷ ‵ Samples ∷ []) ∵
-        nothing ! $ owned ! (row X) (Is (row X)) makes last _ is-last $ fjoin ! $ owned ! f32 (Is f32) (float-makes 𝓤 H A W binary32) rate _ (refl, ok-rate) $ fjoin ! $ owned ! f64 (Is f64) (float-makes 𝓤 H A W binary64) time _ (refl, ok-time) $ fjoin ! $ move ! (3 ∷ 0 ∷ []) $ fjoin ! $ move ! (2 ∷ 0 ∷ []) $ fjoin ! $
-        owned ! T.the-row (Is T.the-row) (LL.makes T.the-type T′.the-plain 𝓤 H A) h _ was $ fjoin ! $ move ! (1 ∷ 0 ∷ []) $ join ! $ frame ! $ done !
-
-    module _ (C : Calls 𝓤 H) (Λ : Loops 𝓤 H) (fm : FmC 𝓤 H (W .laws) C) (known : Triple 𝓤 (C callee) Core) where
+    module _ (C : Calls 𝓤 H) (Λ : Loops 𝓤 H) (fm : FmC 𝓤 H (W .laws) C) (known : Triple 𝓤 (C callee) (Core X answer output 𝓤 H A)) where
       walk : Is (MutSlice (named 1) κ₁ u32) s (slice-vals s) → Is (ShrSlice (named 2) κ₂ u32) m (slice-vals m)
           → ent 𝓤 (onEntry 𝓤 H A (signature X) (κ₀, (κ₁, (κ₂, tt))) (q₀, (q₁, (q₂, tt))) x at) (WpFn 𝓤 H C Λ (thin (X .ty) callee) (vptr b o ∷ sliceVal (ptr s) (length (now s)) ∷ sliceVal (ptr m) (length (now m)) ∷ vfloat binary64 time ∷ vfloat binary32 rate ∷ X .val last ∷ []) Post)
       walk is-out is-samples =
-          qed W ((‵ (flft κ₀ q₀) ⊛ tokens) ∷ ‵ (owns (MutRef (named 0) κ₀ T.the-row ∷ MutSlice (named 1) κ₁ u32 ∷ ShrSlice (named 2) κ₂ u32 ∷ f64 ∷ f32 ∷ row X ∷ []) x at) ∷ []) ∵
+          qed W ((‵ (flft κ₀ q₀) ⊛ held) ∷ ‵ (owns (MutRef (named 0) κ₀ T.the-row ∷ MutSlice (named 1) κ₁ u32 ∷ ShrSlice (named 2) κ₂ u32 ∷ f64 ∷ f32 ∷ row X ∷ []) x at) ∷ []) ∵
           split ! $ move ! (2 ∷ []) $ fsplit ! $ move ! (1 ∷ []) $ fsplit ! $ move ! (1 ∷ []) $ fsplit ! $ move ! (3 ∷ []) $ fsplit3 ! $ drop ! $ move ! (0 ∷ 1 ∷ 5 ∷ 4 ∷ 2 ∷ 6 ∷ []) $
           -- [obs; the borrow; its token; what out owns; what samples owns; the other tokens; what the numbers own]
           enter ! C Λ (thin (X .ty) callee) (vptr b o ∷ sliceVal (ptr s) (length (now s)) ∷ sliceVal (ptr m) (length (now m)) ∷ vfloat binary64 time ∷ vfloat binary32 rate ∷ X .val last ∷ []) _ $
@@ -258,13 +188,13 @@ module _ (X : One) (answer : Answers X) (output : Outputs X) (callee : Name) {M 
           assigns ! (agg ! (and-then ! (load ! (from ! (stop !)) (look ! 7 refl)) (and-then ! (load ! (from ! (fld ! refl (stop !))) (look-in ! 21 (sub ! 1 refl (whole !)))) (no-more !)))) (from ! (stop !))
           (init ! 5 refl (tt, (tt, (record { fits = is-out .0 .1 .0 }, tt)))) $
           -- the call: the samples are had twice
-          move ! (28 ∷ []) $ use1 W (‵ Samples ⊛ ‵ Samples) (shr-slice-copy 𝓤 H A W (named 1) κ₂ u32 .twice m (slice-vals m)) $ split ! $
-          move ! (30 ∷ 29 ∷ 0 ∷ []) $ use3 W (raw (Core .pre to-core)) (goes-core was) $
-          calls-at ! fm Core known to-core
+          move ! (28 ∷ []) $ use1 W (‵ (Samples κ₂ m) ⊛ ‵ (Samples κ₂ m)) (shr-slice-copy 𝓤 H A W (named 1) κ₂ u32 .twice m (slice-vals m)) $ split ! $
+          move ! (30 ∷ 29 ∷ 0 ∷ []) $ use3 W (raw (Core X answer output 𝓤 H A .pre handed)) (goes-core X answer output 𝓤 H A κ₁ κ₂ q₁ q₂ h s m time rate last W ok-time ok-rate is-last was) $
+          calls-at ! fm (Core X answer output 𝓤 H A) known handed
           (and-then ! (load ! (from ! (stop !)) (look ! 11 refl)) (and-then ! (load ! (from ! (stop !)) (look ! 7 refl)) (and-then ! (load ! (from ! (stop !)) (look ! 21 refl)) (and-then ! (load ! (from ! (stop !)) (look ! 19 refl)) (and-then ! (load ! (from ! (stop !)) (look ! 17 refl)) (and-then ! (load ! (from ! (stop !)) (look ! 15 refl)) (no-more !))))))) (λ v.
-          use1 W (later (some (λ (r : Blocked). (tokens ⊛ ‵ (R.the-row .own r (v ∷ []))) ⊛ raw (ensured 𝓤 H A (core-ended X) (core-clauses X answer output 𝓤) (κ₁, (κ₂, tt)) passed tt r)))) (id⊢ 𝓤 _) $ await ! tt $ pick ! (λ r.
+          use1 W (later (some (λ (r : Blocked). (held ⊛ ‵ (R.the-row .own r (v ∷ []))) ⊛ raw (ensured 𝓤 H A (core-ended X) (core-clauses X answer output 𝓤) (κ₁, (κ₂, tt)) (passed X answer output 𝓤 H A κ₁ κ₂ q₁ q₂ h s m time rate last) tt r)))) (id⊢ 𝓤 _) $ await ! tt $ pick ! (λ r.
           -- what the callee ensures, at some last list of the output
-          split ! $ move ! (1 ∷ []) $ use1 W (some (λ (zs : Unit {0} × (List ℕ × (Unit {0} × (Unit {0} × (Unit {0} × (Unit {0} × Unit {0})))))). ‵ (lasts (core-ended X) (κ₁, (κ₂, tt)) passed zs) ⊛ raw (fact 𝓤 ((r ≡ Answer) × (zs .1 .0 ≡ Written))))) (id⊢ 𝓤 _) $ pick ! (λ zs.
+          split ! $ move ! (1 ∷ []) $ use1 W (some (λ (zs : Unit {0} × (List ℕ × (Unit {0} × (Unit {0} × (Unit {0} × (Unit {0} × Unit {0})))))). ‵ (lasts (core-ended X) (κ₁, (κ₂, tt)) (passed X answer output 𝓤 H A κ₁ κ₂ q₁ q₂ h s m time rate last) zs) ⊛ raw (fact 𝓤 ((r ≡ Answer) × (zs .1 .0 ≡ Written))))) (id⊢ 𝓤 _) $ pick ! (λ zs.
           split ! $ move ! (1 ∷ []) $ heard ! ((r ≡ Answer) × (zs .1 .0 ≡ Written)) (λ e. fsplit ! $ move ! (1 ∷ []) $ fsplit ! $ fsplit ! $ move ! (1 ∷ []) $ feqL ! (λ l.
           -- [the last list; …; …; the tokens and the answer; the samples; the record's cell; …]
           move ! (3 ∷ []) $ split ! $ move ! (1 ∷ []) $ facts ! R.the-row (Is R.the-row) (shows 𝓤 H A R.the-row) r (v ∷ []) (λ is.
@@ -289,7 +219,7 @@ module _ (X : One) (answer : Answers X) (output : Outputs X) (callee : Name) {M 
           move ! (16 ∷ 17 ∷ []) $ free1 ! $ move ! (14 ∷ 15 ∷ []) $ free1 ! $ move ! (12 ∷ 13 ∷ []) $ free1 ! $ move ! (10 ∷ 11 ∷ []) $ free1 ! $ move ! (8 ∷ 9 ∷ []) $ free1 ! $ free0 ! $
           keep ! (0 ∷ 1 ∷ 2 ∷ 4 ∷ 7 ∷ 3 ∷ []) $ by ! (exits r (zs .1 .0) (told r v is) e l))))))))))))))))))))
 
-  walks : (C : Calls 𝓤 H) (Λ : Loops 𝓤 H) → FmC 𝓤 H (W .laws) C → Triple 𝓤 (C callee) Core → Walks 𝓤 H A (ended X) (stayed X) (WpFn 𝓤 H C Λ (thin (X .ty) callee)) (clauses X answer output 𝓤)
+  walks : (C : Calls 𝓤 H) (Λ : Loops 𝓤 H) → FmC 𝓤 H (W .laws) C → Triple 𝓤 (C callee) (Core X answer output 𝓤 H A) → Walks 𝓤 H A (ended X) (stayed X) (WpFn 𝓤 H C Λ (thin (X .ty) callee)) (clauses X answer output 𝓤)
   walks C Λ fm known = walked 𝓤 H A (ended X) (stayed X) (clauses X answer output 𝓤) (WpFn 𝓤 H C Λ (thin (X .ty) callee)) (λ κs. (ptr-vals, (slice-vals, (slice-vals, (float-vals binary64, (float-vals binary32, ((λ x. X .val x ∷ []), tt)))))))
       (λ κs. (mut-tells (named 0) (κs .0) T.the-row, (mut-slice-tells (named 1) (κs .1 .0) u32, (shr-slice-tells (named 2) (κs .1 .1 .0) u32, (float-tells binary64, (float-tells binary32, (X .tells, tt)))))))
       (λ κs qs bounds a g are. via 𝓤 _ (fst∗ 𝓤 _ (emp 𝓤)) (walk (κs .0) (κs .1 .0) (κs .1 .1 .0) (qs .0) (qs .1 .0) (qs .1 .1 .0)
@@ -298,7 +228,7 @@ module _ (X : One) (answer : Answers X) (output : Outputs X) (callee : Name) {M 
   goes : AllGo 𝓤 H A W 3 (signature X .params) (ended X .kept) (stayed X)
   goes = (goes-ref 𝓤 H A W 3 0 tt (plain (λ _. T.the-row)), (goes-gave-slice 𝓤 H A W 3 1 tt (plain (λ _. u32)), (goes-none-slice 𝓤 H A W 3 (2 ∷ []) tt (plain (λ _. u32)) yes, (goes-none 𝓤 H A W 3 (λ _. f64) yes (λ κs x f. refl), (goes-none 𝓤 H A W 3 (λ _. f32) yes (λ κs x f. refl), (goes-none 𝓤 H A W 3 (λ _. row X) yes (λ κs x f. refl), tt))))))
 
-  meets : (𝓣 : Tables 𝓤 H) → Triple 𝓤 (𝓣 .C callee) Core → Meets 𝓤 H A (signature X) (WpFn 𝓤 H (𝓣 .C) (𝓣 .Λ) (thin (X .ty) callee)) (closing 𝓤 H A (ended X) (clauses X answer output 𝓤))
+  meets : (𝓣 : Tables 𝓤 H) → Triple 𝓤 (𝓣 .C callee) (Core X answer output 𝓤 H A) → Meets 𝓤 H A (signature X) (WpFn 𝓤 H (𝓣 .C) (𝓣 .Λ) (thin (X .ty) callee)) (closing 𝓤 H A (ended X) (clauses X answer output 𝓤))
   meets 𝓣 known = walk-meets 𝓤 H A (ended X) (stayed X) W goes (clauses X answer output 𝓤) (WpFn 𝓤 H (𝓣 .C) (𝓣 .Λ) (thin (X .ty) callee)) (WpFn-mono 𝓤 H (W .laws) 𝓣 (thin (X .ty) callee))
       (walks (𝓣 .C) (𝓣 .Λ) (fmOf 𝓤 H (W .laws) 𝓣) known)
 
@@ -313,4 +243,4 @@ module _ (X : One) (answer : Answers X) (output : Outputs X) (key callee : Name)
       entered 𝓤 H (tripleOf 𝓤 H (𝓖 .A) (signature X) (closing 𝓤 H (𝓖 .A) (ended X) (clauses X answer output 𝓤)))
       (tables 𝓤 H 𝓜 𝓡 env .C) (tables 𝓤 H 𝓜 𝓡 env .Λ) key (thin (X .ty) callee) closed
       (meets X answer output callee 𝓤 H (𝓖 .A) (givenOf 𝓤 H 𝓜 𝓖) lawful keeps (tablesOf 𝓤 H 𝓜 (tables 𝓤 H 𝓜 𝓡 env))
-      (cited 𝓤 H (Core X answer output callee 𝓤 H (𝓖 .A) (givenOf 𝓤 H 𝓜 𝓖) lawful keeps) 𝓜 𝓡 env callee r is known))
+      (cited 𝓤 H (Core X answer output 𝓤 H (𝓖 .A)) 𝓜 𝓡 env callee r is known))

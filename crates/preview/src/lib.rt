@@ -67,7 +67,7 @@ pub fn preview_cents(
         × (now (out .exit) ≡ outputCents 128 p (now (out .entry)) (now (samples .entry)) time rate cents) ⌝ }
 {
     match process_cents(p, out, samples, time, rate, cents) {
-        Rendered::Block(r) => Previewed::Block(coming_of(r.player, r.keep_alive, r.channels)),
+        Rendered::Block(b) => Previewed::Block(coming_of(b.player, b.keep_alive, b.channels)),
         Rendered::Refused(number) => Previewed::Refused(number),
     }
 }

@@ -18,8 +18,9 @@ use Rattle.claims.specs.LongRun.{startsInTime, OnlyBlocks}
 use Rattle.detune.specs.Table.{entries}
 use Rattle.detune.specs.Detune.{octaves, above, badCents, factorOf}
 use Rattle.cents.specs.Cents.{centsRefusal, renderedCents}
-use Rattle.claims.specs.Longer.{replaced}
-use Rattle.claims.specs.Instances.{rate, frames, loopedCalls, plainCalls, stoppedCalls, longerCalls, Met, Instances}
+use Rattle.claims.specs.Longer.{replaced, unlooked}
+use Rattle.preview.specs.Preview.{shown, previewed, previewedCents}
+use Rattle.claims.specs.Instances.{rate, frames, loopedCalls, plainCalls, stoppedCalls, longerCalls, previewedCalls, Met, Instances}
 use Rattle.claims.proofs.premises_are_met.Statement.{statement}
 use Rattle.claims.proofs.premises_are_met.Tie as tie
 
@@ -56,7 +57,7 @@ met calls blocks typed clips starts time switches stops points plain played = re
 }
 
 instances : Instances
-unfolding replaced centsRefusal renderedCents badCents factorOf octaves above entries accepted accepts next opening playing handled buffered onStart onStop
+unfolding replaced unlooked shown previewed previewedCents centsRefusal renderedCents badCents factorOf octaves above entries accepted accepts next opening playing handled buffered onStart onStop
     onLoop badTime clamped clampedStart clampedEnd fresh validRate validShape duration rendered refusal badBlockTime badRate badSamples plan isAligned startAt
     alignedPlan subSamplePlan settings firstHead headAt hasEnded turnsOver firstFrame endsWithin played nextFrame lastWrap alignedPosition dt blockSeconds
     blockEnd idle roundAway ofBits ofInt round sum add mul div rem lt le eq ne neg sub toUnsigned fits
@@ -69,6 +70,12 @@ instances = (
     leftOut = refl;
     met = met (replaced (fresh rate) longerCalls) 2 tt refl refl tt (lit≤ tt) (lit≤ tt) refl ((refl, refl, refl), ((refl, refl, refl), tt)) refl;
   },
+  record {
+    typed = tt;
+    leftOut = refl;
+    met = met (replaced (fresh rate) previewedCalls) 2 tt refl refl tt (lit≤ tt) (lit≤ tt) refl ((refl, refl, refl), ((refl, refl, refl), tt)) refl;
+  },
+  record { between = refl; short = refl; far = refl },
 )
 
 returns : tie.Need-returns

@@ -1,31 +1,20 @@
 -- `netthimble_cents::netthimble_player_process_cents` meets its contract: it is one of the functions of `lent/proofs/Lent.antt`, with the cents for its last parameter. Assumes nothing.
-use lib.IntN.{ℤ}
 use lib.ListN.{length}
-use mir.Syntax.{tyInt, w32}
-use mir.Val.{vint, ofZ}
-use base.Stored.{codedℤ}
+use mir.Syntax.{w32}
 use contract.Running.{givenOf}
-use denote.Builtin.{i32}
-use denote.Signed.{sint-tells, sint-lawful}
-use Rattle.cents.specs.Cents.{renderedCents, outputCents}
-use Rattle.lent.specs.Lent.{afterBlock}
+use denote.Signed.{sint-lawful}
+use Rattle.cents.specs.Cents.{outputCents}
 use Rattle.lent.proofs.cents_by_value.Symbol as core-def
 use Rattle.lent.proofs.cents_by_value.Met as core-thm
-use Rattle.lent.proofs.Lent.{One, Answers, lent-meets}
+use Rattle.lent.proofs.ByValue.{by-cents, cents-answer}
+use Rattle.lent.proofs.Lent.{lent-meets}
 use Rattle.lent.proofs.Moved.{leaves-cents}
 use Rattle.netthimble_cents.proofs.netthimble_player_process_cents.Key.{name}
 use Rattle.netthimble_cents.proofs.netthimble_player_process_cents.Statement as stated
 use Rattle.netthimble_cents.proofs.netthimble_player_process_cents.Code as code
 
--- the last parameter
-abbrev whole-cents : One
-whole-cents = record { Value = ℤ; coded = codedℤ; ty = tyInt w32; own = i32 .own; val = λ z. vint w32 (ofZ w32 z); pure = λ _ _. (tt, tt); tells = sint-tells w32 }
-
-abbrev answer : Answers whole-cents
-answer p out samples time rate x = afterBlock p (renderedCents 128 p (length out) (length samples) time rate x)
-
 pub netthimble-player-process-cents-spec : {M : Type 1} → stated.statement M
 unfolding code.routine
 netthimble-player-process-cents-spec 𝓤 H 𝓜 𝓖 𝓡 =
-    lent-meets whole-cents answer (outputCents 128) name core-def.name 𝓤 H 𝓜 𝓖 𝓡 (sint-lawful 𝓤 H (𝓖 .A) (givenOf 𝓤 H 𝓜 𝓖) w32) (λ p out samples. leaves-cents p 128 (length out) (length samples)) code.env
+    lent-meets by-cents cents-answer (outputCents 128) name core-def.name 𝓤 H 𝓜 𝓖 𝓡 (sint-lawful 𝓤 H (𝓖 .A) (givenOf 𝓤 H 𝓜 𝓖) w32) (λ p out samples. leaves-cents p 128 (length out) (length samples)) code.env
     (code.unfolded 𝓤 H 𝓜 𝓡) core-def.routine code.calls-lent·cents-by-value (core-thm.met 𝓤 H 𝓜 𝓖 𝓡)

@@ -31,8 +31,8 @@ module _ (p : Player) (out samples : List ℕ) (time rate : Float) (cents : ℤ)
 process-cents-requires : tie.Need-process-cents-requires
 process-cents-requires c κs = search needs
 
-enum-known-r : tie.Need-enum-known-r
-enum-known-r c = search needs
+enum-known-b : tie.Need-enum-known-b
+enum-known-b c = search needs
 
 coming-of-requires : tie.Need-coming-of-requires
 coming-of-requires c κs = search needs
@@ -50,7 +50,7 @@ returns c =
     let s = done .before .before .before .before in
     let a = s .args in
     let e = own-answer (a .p) (a .out .now) (a .samples .now) (a .time) (a .rate) (a .cents) (s .fits .cents) _ (done .process-cents .ensures .0) in (
-      taken e (of-cents 128 (a .p) (length (a .out .now)) (length (a .samples .now)) (a .time) (a .rate) (a .cents)) _ (c .before .before .r .given .1) _ (c .coming-of .ensures),
+      taken e (of-cents 128 (a .p) (length (a .out .now)) (length (a .samples .now)) (a .time) (a .rate) (a .cents)) _ (c .before .before .b .given .1) _ (c .coming-of .ensures),
       own-output (a .p) (a .out .now) (a .samples .now) (a .time) (a .rate) (a .cents) (s .fits .cents) _ (done .process-cents .ensures .1),
     )
 
@@ -67,4 +67,4 @@ returns-2 c =
     (turned-down e _ (c .before .number .given .1), own-output (a .p) (a .out .now) (a .samples .now) (a .time) (a .rate) (a .cents) (s .fits .cents) _ (done .process-cents .ensures .1))
 
 pub preview-cents-spec : {M : Type 1} → statement M
-preview-cents-spec = tie.close (tie.spec process-cents-requires enum-known-r coming-of-requires enum-known-number same-length returns same-length-2 returns-2)
+preview-cents-spec = tie.close (tie.spec process-cents-requires enum-known-b coming-of-requires enum-known-number same-length returns same-length-2 returns-2)
