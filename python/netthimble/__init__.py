@@ -7,6 +7,7 @@
     block = player.block(0.0)      # block.samples[0] is an array of 128 floats
     block.position, block.ended    # seconds of the clip; whether the player has ended
     player.block(0.01, cents=-50)  # the next block, a quarter tone lower
+    player.preview(0.02)           # what the block at 0.02 would be; the player stays
 
 A call that the library refuses raises Refused, whose number is document 01's, and changes nothing.
 The library is target/c/libnetthimble.so of this repository, or the file that the environment variable NETTHIMBLE_LIBRARY names."""
@@ -103,6 +104,8 @@ _CALLS = {
     "player_set_buffer": (c_uint32, [POINTER(_Player), c_size_t, c_size_t, c_float, _WORDS, c_size_t]),
     "player_process": (_Block, [POINTER(_Player), _WORDS, c_size_t, _WORDS, c_size_t, c_double, c_float, c_double]),
     "player_process_cents": (_Block, [POINTER(_Player), _WORDS, c_size_t, _WORDS, c_size_t, c_double, c_float, c_int32]),
+    "player_preview": (_Block, [POINTER(_Player), _WORDS, c_size_t, _WORDS, c_size_t, c_double, c_float, c_double]),
+    "player_preview_cents": (_Block, [POINTER(_Player), _WORDS, c_size_t, _WORDS, c_size_t, c_double, c_float, c_int32]),
     "factor": (_Factor, [c_int32]),
     "clip_shape": (_Shaped, [_BYTES, c_size_t]),
     "clip_frames": (c_uint32, [_BYTES, c_size_t, _WORDS, c_size_t]),
@@ -280,22 +283,29 @@ class Player:
         """The loop ends `at` seconds of the clip; 0 or less, or more than the clip has, means its end."""
         self._tell("loop_end", at)
 
-    def block(self, time, rate=1.0, factor=None, *, cents=None):
-        """The block at `time` seconds of the context, played at `rate` times `factor` (1 if it is left out), or times the factor of whole
-        `cents` in its place. Times must rise."""
+    def _render(self, word, call, time, rate, factor, cents):
         if factor is not None and cents is not None:
-            raise TypeError("block takes a factor or cents, not both")
+            raise TypeError(f"{word} takes a factor or cents, not both")
         _check_floats()
         out, lent = (c_uint32 * _OUT)(), self._clip._lent if self._clip else (c_uint32 * 0)()
         if cents is None:
-            r = _CALL["player_process"](self._record, out, _OUT, lent, len(lent), time, rate, 1.0 if factor is None else factor)
+            r = _CALL[call](self._record, out, _OUT, lent, len(lent), time, rate, 1.0 if factor is None else factor)
         else:
-            r = _CALL["player_process_cents"](self._record, out, _OUT, lent, len(lent), time, rate, _cents(cents))
+            r = _CALL[call + "_cents"](self._record, out, _OUT, lent, len(lent), time, rate, _cents(cents))
         if r.refusal:
-            raise Refused("block", r.refusal)
+            raise Refused(word, r.refusal)
         data = memoryview(out).cast("B")
         bits = [_words(data[4 * FRAMES * c : 4 * FRAMES * (c + 1)]) for c in range(r.channels)]
         return Block(bits, bool(r.keep_alive), bool(r.ended), r.position)
+
+    def block(self, time, rate=1.0, factor=None, *, cents=None):
+        """The block at `time` seconds of the context, played at `rate` times `factor` (1 if it is left out), or times the factor of whole
+        `cents` in its place. Times must rise."""
+        return self._render("block", "player_process", time, rate, factor, cents)
+
+    def preview(self, time, rate=1.0, factor=None, *, cents=None):
+        """The block that `block` would give for the same values, without playing it: the player goes on as if nobody had looked."""
+        return self._render("preview", "player_preview", time, rate, factor, cents)
 
     @property
     def position(self):

@@ -323,6 +323,81 @@ static void silent_cents(void) {
     }
 }
 
+/* ---- previews */
+
+/* A player in a page that can only be read. */
+static const netthimble_player *unwritable(const netthimble_player *p) {
+    static void *page = NULL;
+    if (!page) page = mmap(NULL, 4096, PROT_READ | PROT_WRITE, MAP_PRIVATE | MAP_ANONYMOUS, -1, 0);
+    if (page == MAP_FAILED || mprotect(page, 4096, PROT_READ | PROT_WRITE)) exit(3);
+    memcpy(page, p, sizeof *p);
+    if (mprotect(page, 4096, PROT_READ)) exit(3);
+    return (const netthimble_player *)page;
+}
+
+/* A preview is the block on a copy: its answer and its whole output, with a factor and in cents; the player stays, byte for byte, and goes on
+ * as a twin that nobody looked at. Aligned, sub-sample, backwards, and past the end of a clip of two channels, looped and not. */
+static void previews(void) {
+    uint32_t *samples = lent(400, 0), *out = lent(4096, 7), *second = lent(4096, 9), *third = lent(4096, 9);
+    for (size_t i = 0; i < 400; i++) samples[i] = netthimble_bits((float)(i * 37 % 101) - 50.0f);
+    for (int on = 0; on < 2; on++) {
+        netthimble_player p, twin;
+        for (size_t i = 0; i < 4096; i++) second[i] = 9;
+        CHECK(netthimble_player_new(&p, 48000.0f) == 0);
+        CHECK(netthimble_player_preview(unwritable(&p), second, 4096, NULL, 0, 0, 1, 1).channels == 1 && all(second, 0, 128, 0) && all(second, 128, 4096, 9));
+        CHECK(netthimble_player_set_buffer(&p, 2, 200, 48000.0f, samples, 400) == 0);
+        CHECK(netthimble_player_start(&p, 0, 0, NETTHIMBLE_NEVER) == 0 && netthimble_player_loop(&p, on != 0) == 0);
+        twin = p;
+        for (int n = 0; n < 8; n++) {
+            float rate = n < 2 ? 1.0f : n < 4 ? 0.75f : on ? -0.5f : 2.0f;
+            double time = n * 128 / 48000.0;
+            int32_t cents = n % 2 ? -50 : 0;
+            netthimble_player before = p;
+            memset(second, 9, 4 * 4096);
+            memset(third, 9, 4 * 4096);
+            memset(out, 9, 4 * 4096);
+            netthimble_block a = netthimble_player_preview(unwritable(&p), second, 4096, samples, 400, time, rate, netthimble_factor(cents).factor);
+            netthimble_block c = netthimble_player_preview_cents(unwritable(&p), third, 4096, samples, 400, time, rate, cents);
+            CHECK(netthimble_player_preview(&p, second, 4096, samples, 400, time, rate, netthimble_factor(cents).factor).refusal == 0);
+            CHECK(memcmp(&p, &before, sizeof p) == 0);
+            netthimble_block b = netthimble_player_process(&p, out, 4096, samples, 400, time, rate, netthimble_factor(cents).factor);
+            CHECK(a.refusal == 0 && same_answer(a, b) && same_answer(c, b));
+            CHECK(memcmp(second, out, 4 * 4096) == 0 && memcmp(third, out, 4 * 4096) == 0);
+            CHECK(netthimble_player_process_cents(&twin, out, 4096, samples, 400, time, rate, cents).refusal == 0 && same(&p, &twin));
+        }
+        CHECK(p.render_state.ended == (on == 0));
+    }
+}
+
+/* A preview's refusals are the block's own, in its order; the second output is then untouched. */
+static void refused_previews(void) {
+    uint32_t *samples = lent(6, 0), *out = lent(4097, 7);
+    netthimble_player p = looped(samples), q = p;
+    netthimble_block b;
+    CHECK((b = netthimble_player_preview(&p, out, 4097, samples, 5, NAN, NAN, NAN)).refusal == 8);
+    CHECK((b = netthimble_player_preview(&p, NULL, 0, samples, 6, 0, 1, 1)).refusal == 8);
+    CHECK((b = netthimble_player_preview(&p, out + 1, 4096, samples, 5, NAN, NAN, NAN)).refusal == 13);
+    CHECK((b = netthimble_player_preview(&p, out + 1, 4096, samples, 5, 0, NAN, 1)).refusal == 14);
+    CHECK((b = netthimble_player_preview(&p, out + 1, 4096, samples, 5, 0, 1, 0)).refusal == 14);
+    CHECK((b = netthimble_player_preview(&p, out + 1, 4096, samples, 5, 0, 1, 1)).refusal == 1);
+    CHECK(!b.keep_alive && !b.ended && b.channels == 0 && b.position == 0);
+    CHECK((b = netthimble_player_preview_cents(&p, out, 4097, samples, 5, NAN, NAN, 12001)).refusal == 8);
+    CHECK((b = netthimble_player_preview_cents(&p, out + 1, 4096, samples, 5, NAN, NAN, 12001)).refusal == 13);
+    for (size_t i = 0; i < sizeof bad_cents / sizeof *bad_cents; i++)
+        CHECK((b = netthimble_player_preview_cents(&p, out + 1, 4096, samples, 5, 0, NAN, bad_cents[i])).refusal == 16);
+    CHECK((b = netthimble_player_preview_cents(&p, out + 1, 4096, samples, 5, 0, NAN, 12000)).refusal == 14);
+    CHECK((b = netthimble_player_preview_cents(&p, out + 1, 4096, samples, 5, 0, 1, -12000)).refusal == 1);
+    CHECK(!b.keep_alive && !b.ended && b.channels == 0 && b.position == 0);
+    CHECK(all(out, 0, 4097, 7) && memcmp(&p, &q, sizeof p) == 0);
+    CHECK(netthimble_player_process(&p, out + 1, 4096, samples, 6, 0, 1, 1).refusal == 0);
+    CHECK(netthimble_player_preview(&p, out + 1, 4096, samples, 6, 0, 1, 1).refusal == 13);
+    CHECK(netthimble_player_preview(&p, out + 1, 4096, samples, 6, 1, 1, 1).refusal == 0);
+    /* the player of a refused rate shows nothing */
+    netthimble_player nobody = netthimble_new(NAN).player;
+    CHECK(netthimble_player_preview(&nobody, out + 1, 4096, samples, 6, 0, 1, 1).refusal == 1);
+    CHECK(netthimble_player_preview_cents(&nobody, out + 1, 4096, samples, 6, 0, 1, 12001).refusal == 16);
+}
+
 /* ---- clips and buffers */
 
 static void clips(void) {
@@ -424,6 +499,8 @@ int main(void) {
     cents_blocks();
     refused_cents();
     silent_cents();
+    previews();
+    refused_previews();
     clips();
     copies();
     buffers();

@@ -205,29 +205,39 @@ static bool i32_word(word w, int32_t *value) {
     return true;
 }
 
-/* A block by its factor, or in cents. Samples of another length than the clip's are pages that hold zeros. */
+/* A block by its factor (B) or in cents (D), or a preview of it (M, N). */
+static netthimble_block rendered(char kind, uint32_t *out, size_t out_len, const uint32_t *samples, size_t len, double time, float speed, double factor, int32_t cents) {
+    if (kind == 'B') return netthimble_player_process(&player, out, out_len, samples, len, time, speed, factor);
+    if (kind == 'D') return netthimble_player_process_cents(&player, out, out_len, samples, len, time, speed, cents);
+    if (kind == 'M') return netthimble_player_preview(&player, out, out_len, samples, len, time, speed, factor);
+    return netthimble_player_preview_cents(&player, out, out_len, samples, len, time, speed, cents);
+}
+
+/* Samples of another length than the clip's are pages that hold zeros. */
 static bool block(const word *w, size_t count) {
-    static uint32_t out[MOST_OUT];
+    static uint32_t first[MOST_OUT], second[MOST_OUT];
     double time, factor = 1;
     float speed;
     int32_t cents = 0;
     size_t out_len = NETTHIMBLE_OUT, len = clip_len;
     const uint32_t *samples = clip;
     if (count < 4 || count > 6 || !f64_word(w[1], &time) || !f32_word(w[2], &speed)) return false;
-    bool by_factor = is(w[0], "B") && f64_word(w[3], &factor);
-    if (!by_factor && !(is(w[0], "D") && i32_word(w[3], &cents))) return false;
+    bool previews = is(w[0], "M") || is(w[0], "N"), by_factor = is(w[0], "B") || is(w[0], "M");
+    if (!by_factor && !is(w[0], "D") && !is(w[0], "N")) return false;
+    if (by_factor ? !f64_word(w[3], &factor) : !i32_word(w[3], &cents)) return false;
+    uint32_t *out = previews ? second : first;
     if (count > 4 && (!dec(w[4], &out_len) || out_len > MOST_OUT)) return false;
     if (count > 5 && (!dec(w[5], &len) || len > MOST_SAMPLES)) return false;
     if (len != clip_len && len != 0) samples = (const uint32_t *)mmap(NULL, 4 * len, PROT_READ, MAP_PRIVATE | MAP_ANONYMOUS | MAP_NORESERVE, -1, 0);
     if (samples == MAP_FAILED) exit(3);
-    netthimble_block b = by_factor ? netthimble_player_process(&player, out, out_len, samples, len, time, speed, factor)
-                                   : netthimble_player_process_cents(&player, out, out_len, samples, len, time, speed, cents);
+    char kind = previews ? (by_factor ? 'M' : 'N') : by_factor ? 'B' : 'D';
+    netthimble_block b = rendered(kind, out, out_len, samples, len, time, speed, factor, cents);
     if (len != clip_len && len != 0) munmap((void *)samples, 4 * len);
     if (b.refusal != 0) {
         refused(b.refusal);
         return true;
     }
-    printf("B %d %d %zu %016" PRIX64 "\n", b.keep_alive, b.ended, b.channels, bits64(b.position));
+    printf("%c %d %d %zu %016" PRIX64 "\n", kind == 'D' ? 'B' : kind, b.keep_alive, b.ended, b.channels, bits64(b.position));
     for (size_t c = 0; c < b.channels; c++) print_runs(c, out + NETTHIMBLE_FRAMES * c, NETTHIMBLE_FRAMES);
     return true;
 }
