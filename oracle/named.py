@@ -1,11 +1,11 @@
-"""Scripts chosen by hand, at least one for each rule of document 01. `named()` gives (name, units), and `in_cents()`
-those of document 02, 2.1.
+"""Scripts chosen by hand, at least one for each rule of document 01. `named()` gives (name, units), `in_cents()` those
+of document 02, 2.1, and `previews()` those of 2.2.
 
 Where a name begins with `panic: ` the original panics (document 01's excepted cases); these are not recorded.
 """
 import math
 
-from scripts import MAX, TWO_64, f32, words_text, x32, x64, xi32
+from scripts import MAX, TWO_64, f32, previewed, words_text, x32, x64, xi32
 
 RATE = 48000.0
 DT = 1 / RATE
@@ -53,6 +53,20 @@ def B(time=0.0, rate=1.0, factor=1.0, *lengths):
 
 def cents(time=0.0, rate=1.0, cents=0, *lengths):
     return " ".join(["D", x64(time), x32(rate), xi32(cents), *map(str, lengths)])
+
+
+def M(*values):
+    """The preview of a block; below in cents."""
+    return previewed(B(*values))
+
+
+def N(*values):
+    return previewed(cents(*values))
+
+
+def looked(*played):
+    """Each block with its preview before it, and the player before and after each."""
+    return [unit for block in played for unit in ("Z", previewed(block), "Z", block, "Z")]
 
 
 def blocks(count, rate=1.0, factor=1.0, first=0, output=RATE):
@@ -369,3 +383,90 @@ def in_cents():
                                      cents()[:-1], cents() + "0", cents() + " ", " " + cents(), f"D {x64(0.0)} 3F800000 {x64(1.0)}", f"D {x64(0.0)} 3F800000 fffffff0",
                                      f"D {x64(0.0)} 3F800000 -0000001", f"D {x64(0.0)} {x64(1.0)} 00000000", f"D  {x64(0.0)} 3F800000 00000000", "Z"]
     yield "words given up by a block in cents", [R(), "C 1 2 473B8000", "W 3F800000", cents(), "Z"]
+
+
+def previews():
+    for part in (previews_and_blocks, previews_alone, previews_refused):
+        yield from part()
+
+
+def previews_and_blocks():
+    """Of the same arguments: the same answer."""
+    clip = [C(ramp(300)), S()]
+    for loop in (0, 1):
+        yield f"preview, then the block, aligned, loop {loop}", [R(), *clip, f"L {loop}", *looked(*blocks(4))]
+        yield f"preview, then the block, rate 0.7, loop {loop}", [R(), *clip, f"L {loop}", *looked(*blocks(3, 0.7))]
+        yield f"preview, then the block, rate -1, loop {loop}", [R(), C(ramp(200)), S(0.0, 150 / RATE), f"L {loop}", *looked(*blocks(3, -1.0))]
+    yield "preview, then the block, factor 1.25, two channels", [R(), C(ramp(50), ramp(50, 100.0)), S(), "L 1", *looked(*blocks(2, 1.0, 1.25))]
+    for c in (0, 1, -1, 700, 1200, 12000, -12000):
+        yield f"preview, then the block, cents {c}", [R(), *clip, "L 1", *looked(cents(0.0, 1.0, c), cents(D, 1.0, c))]
+    yield "preview, then the block, 32 channels", [R(), C(*[[float(c), c + 0.5] for c in range(32)]), S(), *looked(B())]
+    yield "preview, then the block, 44,100 to 48,000", [R(), C(ramp(200), rate=44100.0), S(), *looked(*blocks(2))]
+    yield "preview keeps the bits of copied frames", [R(), C(["7FC00001", "FFC12345", "7F800001", "FFBFFFFF", "80000000", "00000001"]), S(), "L 1",
+                                                      *looked(B())]
+    yield "preview of calculated NaNs", [R(), C(["7F800001", 1.0, "FFC12345", "7F800000", "FF800000"]), S(), "L 1", *looked(B(0.0, 0.5))]
+    yield "previews between a looped clip's blocks", [R(), C(ramp(100)), S(), "L 1", M(), B(), M(D, 0.5), M(D), B(D), "Z", M(2 * D, -1.0), N(2 * D, 1.0, -1200),
+                                                      B(2 * D), "Z", N(3 * D), M(9.0), B(3 * D), "Z"]
+    yield "previews of a looped part, in a row", [R(), C(ramp(8)), S(), "L 1", P(2 / RATE), E(5 / RATE), M(), M(0.0, 0.7), M(0.0, -1.0), M(), "Z", B(0.0, 0.7),
+                                                  "Z", M(D, 0.7), M(D, 0.7), N(D, 0.7, 0), "Z", B(D, 0.7), "Z"]
+
+
+def previews_alone():
+    """What a block would leave, a preview does not: the player's record stays."""
+    clip = [C(ramp(300)), S()]
+    yield "preview before a clip and a start: silent", [R(), M(), N(), "Z", C(ramp(3)), M(), N(0.0, 1.0, 5), "Z", S(), *looked(B())]
+    yield "preview before a start, clip there", [R(), C(ramp(3), ramp(3)), M(), M(1.0), "Z", S(D), M(), "Z", M(D), "Z", *looked(B(), B(D))]
+    yield "preview would end: start without a clip", [R(), S(), M(), "Z", C(ramp(3)), M(), "Z", B(), "Z"]
+    yield "preview would end: the clip's end", [R(), C(ramp(100)), S(), M(), "Z", M(), "L 1", "Z", B(), "Z", B(D), "Z"]
+    yield "preview would end: a stop", [R(), *clip, T(50 * DT), M(), "Z", T(1.0), B(), "Z", T(0.0), M(D), "Z", T(2.0), B(D), "Z"]
+    yield "preview would end: a stop before the start", [R(), C(ramp(3)), S(1.0), T(D), M(), "Z", T(2.0), B(), "Z", B(1.0), "Z"]
+    yield "preview would end: the duration", [R(), C(ramp(300)), S(0.0, 0.0, 100 / RATE), M(0.0, 0.5), M(0.0, 2.0), "Z", *looked(B(0.0, 0.25), B(D, 0.25))]
+    yield "preview after the end", [R(), C(ramp(3)), S(), B(), "Z", M(D), M(0.0), "L 1", M(1.0), N(1.0, 1.0, 100), "Z", B(1.0), "Z", M(1.0), M(2.0), "Z"]
+    yield "preview would start: in the past", [R(), C(ramp(300)), S(0.5), M(2.0), "Z", M(1.0), "Z", *looked(B(0.5)), "Z"]
+    yield "preview would start: between two samples", [R(), C(ramp(6)), S(5.25 * DT), M(), "Z", M(DT), "Z", *looked(B())]
+    yield "preview would start: after sample 127", [R(), C(ramp(3)), S(127.5 * DT), *looked(B(), B(D))]
+    yield "preview would clamp the offset", [R(), C(ramp(6)), S(0.0, 1.0), "L 1", P(2 / RATE), E(4 / RATE), M(0.0, -1.0), "Z", M(), "Z", *looked(B(0.0, 0.5))]
+    yield "preview would enter the loop", [R(), C(ramp(200)), S(), "L 1", P(2 / RATE), E(5 / RATE), M(), "Z", P(100 / RATE), E(110 / RATE),
+                                           *looked(B(0.0, 0.5))]
+    yield "preview would leave the loop", [R(), C(ramp(8)), S(), "L 1", B(0.0, 0.5), "Z", "L 0", M(D, 0.5), "Z", "L 1", *looked(B(D, 0.5))]
+    yield "preview of another speed leaves blocks aligned", [R(), *clip, B(), M(D, 0.5), N(D, 1.0, 1), "Z", B(D), "Z"]
+    yield "preview of another speed leaves blocks as they are", [R(), *clip, B(0.0, 0.5), M(D), "Z", B(D, 0.5), "Z"]
+    yield "preview's time is not the last block's", [R(), *clip, "L 1", M(5.0), M(1.0), M(1.0), "Z", B(), "Z", M(5.0), N(4.0), B(D), "Z", M(2 * D), B(2 * D),
+                                                     "Z"]
+    start = 127 * DT
+    yield "preview of overlapping blocks, negative position, L = 128", [R(), C(ramp(128)), S(start), "L 1", B(0.0, -1.0), *looked(B(start), B(start + D))]
+    yield "panic: preview of overlapping blocks, negative position, L = 127", [R(), C(ramp(127)), S(start), "L 1", B(0.0, -1.0), "Z", M(start)]
+
+
+def previews_refused():
+    """Refusals are the block's own, and leave the player too."""
+    clip, top = [C(ramp(300)), S()], 2.0**30
+    yield "preview 8: output lengths", [R(), *(M(0.0, 1.0, 1.0, n) for n in (0, 128, 4095, 4097, 65536)), M(0.0, 1.0, 1.0, 4096),
+                                        *(N(0.0, 1.0, 0, n) for n in (0, 4097)), "Z"]
+    yield "preview 1: sample lengths", [R(), M(0.0, 1.0, 1.0, 4096, 1), M(0.0, 1.0, 1.0, 4096, 0), C(ramp(3), ramp(3)), S(),
+                                        *(M(D, 1.0, 1.0, 4096, n) for n in (0, 3, 5, 7, 6)), *(N(D, 1.0, 1, 4096, n) for n in (0, 7, 6)), "Z"]
+    yield "preview 13: times", [R(), f"M {NAN} 3F800000 {x64(1.0)}", f"M {INF} 3F800000 {x64(1.0)}", M(-5e-324), M(UP(top)), f"N {NAN} 3F800000 00000000",
+                                N(-1.0), "Z", M(-0.0), M(top), N(top), "Z", B(-0.0), M(0.0), M(5e-324), "Z"]
+    yield "preview 13: at the last block's time", [R(), *clip, M(), B(), M(), N(), "Z", M(UP(0.0)), B(D), M(D), M(0.0), N(D, 1.0, 1), N(UP(D), 1.0, 1), "Z",
+                                                   B(2 * D), "Z"]
+    odd = [f"{x64(0.0)} {bits}" for bits in ("7F800000", "FF800000", "7FC00000")]
+    yield "preview 14: rates and factors", [R(), *(u for rate in odd for u in (f"M {rate} {x64(1.0)}", f"N {rate} 00000000")),
+                                            f"M {x64(0.0)} 3F800000 {NAN}", f"M {x64(0.0)} 3F800000 {INF}", M(0.0, 1.0, 0.0), M(0.0, 1.0, -1.0),
+                                            M(0.0, 1.0, UP(TWO_64)), M(0.0, 1.0, DOWN(1 / TWO_64)), M(0.0, 1.0, TWO_64), M(0.0, 1.0, 1 / TWO_64), "Z"]
+    bad = (12001, -12001, 13200, -13200, 2**31 - 1, -(2**31))
+    yield "preview 16: outside -12,000 to 12,000", [R(), *(N(0.0, 1.0, c) for c in bad), *clip, *(N(0.0, 1.0, c) for c in bad), N(0.0, 1.0, 12000),
+                                                    N(0.0, 1.0, -12000), "Z"]
+    wrong = f"M {NAN} 7F800000 {NAN}"
+    yield "preview: 8, 13, 14, 1 in this order", [R(), C([1.0]), S(), wrong + " 7 9", wrong + " 4096 9", f"M {x64(0.0)} 7F800000 {NAN} 4096 9",
+                                                  M(0.0, 1.0, 1.0, 4096, 9), M(0.0, 1.0, 1.0, 4096, 1), "Z"]
+    wrong = f"N {NAN} 7F800000 {xi32(12001)}"
+    yield "preview: 8, 13, 16, 14, 1 in this order", [R(), C([1.0]), S(), wrong + " 7 9", wrong + " 4096 9", f"N {x64(0.0)} 7F800000 {xi32(12001)} 4096 9",
+                                                      f"N {x64(0.0)} 7F800000 {xi32(12000)} 4096 9", N(0.0, 1.0, 12000, 4096, 9), N(0.0, 1.0, 12000, 4096, 1),
+                                                      "Z"]
+    yield "preview refused while playing", [R(), *clip, "L 1", B(0.0, 0.7), "Z", M(D, 1.0, 1.0, 128), M(0.0), M(D, 1.0, 0.0), N(D, 1.0, 12001),
+                                            M(D, 1.0, 1.0, 4096, 9), "Z", *looked(B(D, 0.7))]
+    yield "preview without a player", [R(), "# then", "R 00000000", M(), N(), N(0.0, 1.0, 12001)]
+    yield "unknown lines of previews", [R(), "M", "N", "M 0 0 0", "m" + M()[1:], "n" + N()[1:], M() + " 4096 0 0", N() + " 65537", M() + " x",
+                                        M() + " 4096 536870913", N()[:-1], N() + "0", M() + " ", " " + M(), f"M {x64(0.0)} 3F800000 00000000",
+                                        f"N {x64(0.0)} 3F800000 {x64(1.0)}", f"M  {x64(0.0)} 3F800000 {x64(1.0)}", "MN", "Z"]
+    yield "words given up by a preview", [R(), "C 1 2 473B8000", "W 3F800000", M(), "C 1 2 473B8000", "W 3F800000", N(), "Z"]

@@ -2,6 +2,7 @@
 
 A script is a list of units; a unit is one line, or a call with its `W` lines.
 """
+import copy
 import math
 import random
 import struct
@@ -25,6 +26,10 @@ BAD_LINES = ["", "b", "Z ", "B", "S", "L 2", "L", "T 0", "Q", "W 00000000", "R",
 BAD_CENTS_LINES = ["D", "D 0 0 0", "d 0000000000000000 3F800000 00000000", "D 0000000000000000 3F800000", "D 0000000000000000 3F800000 0",
                    "D 0000000000000000 3F800000 3FF0000000000000", "D 0000000000000000 3F800000 fffffff0", "D 0000000000000000 3F800000 -0000001",
                    "D 0000000000000000 3F800000 00000000 ", "D 0000000000000000 3F800000 00000000 65537", "D 0000000000000000 3F800000 00000000 4096 0 0"]
+BAD_BLOCK_LINES = ["B", "B 0 0 0", "b 0000000000000000 3F800000 3FF0000000000000", "B 0000000000000000 3F800000", "B 0000000000000000 3F800000 1",
+                   "B 0000000000000000 3F800000 00000000", "B 0000000000000000 3F800000 3ff0000000000000", "B 0000000000000000 3F800000 3FF0000000000000 ",
+                   "B 0000000000000000 3F800000 3FF0000000000000 65537", "B 0000000000000000 3F800000 3FF0000000000000 4096 0 0"]
+PREVIEWS = str.maketrans("BDbd", "MNmn")
 
 
 def f32(x):
@@ -45,6 +50,20 @@ def xi32(n):
 
 
 BAD_FACTORS = [x64(x) for x in (0.0, -1.0, math.nextafter(TWO_64, MAX), math.nextafter(1 / TWO_64, 0.0))]
+
+
+def time_of(unit):
+    """The time of a block's line; none where the unit is no such line, or its time is no number from 0 on."""
+    words = unit.split(" ")
+    if words[0] not in ("B", "D") or len(words) < 4 or len(words[1]) != 16:
+        return None
+    time = struct.unpack(">d", bytes.fromhex(words[1]))[0]
+    return time if 0 <= time < MAX else None
+
+
+def previewed(line):
+    """The preview of a block's line."""
+    return line[:1].translate(PREVIEWS) + line[1:]
 
 
 def words_text(words):
@@ -78,11 +97,15 @@ def make_pools(rng, size):
 class Generator:
     POOL = 80000
 
-    def __init__(self, seed, cents=True):
-        """Without `cents` the scripts have no `D` lines: the first ones that were recorded are made so."""
+    def __init__(self, seed, cents=True, previews=True):
+        """Without `cents` the scripts have no `D` lines: the first ones that were recorded are made so. Previews are strewn
+        in by a copy that draws by itself: without them the scripts of a seed are the same in all else."""
         self.rng = random.Random(seed)
         self.cents = cents
+        self.previews = previews
         self.pools = make_pools(self.rng, self.POOL)
+        self.meter = copy.copy(self)
+        self.meter.rng = random.Random(f"{seed} previews")
 
     # ------------------------------------------------------------ numbers
 
@@ -226,31 +249,34 @@ class Generator:
             return f"D {x64(time)} {x32(rate)} {xi32(detune)}"
         return f"B {x64(time)} {x32(rate)} {x64(detune)}"
 
-    def refused_cents(self, times):
-        """A `D` line with one to four things that are refused, or an unknown one."""
+    def refused_block(self, times, cents):
+        """A `B` line or, in cents, a `D` line with one to four things that are refused, or an unknown one."""
         rng = self.rng
         if rng.random() < 0.15:
-            return rng.choice(BAD_CENTS_LINES)
-        time, rate, cents, output, samples = x64(rng.choice(times)), "3F800000", self.whole_cents(), 4096, None
-        for row in rng.sample([8, 13, 14, 16, 16, 1], rng.randint(1, 4)):
+            return rng.choice(BAD_CENTS_LINES if cents else BAD_BLOCK_LINES)
+        time, rate, output, samples = x64(rng.choice(times)), "3F800000", 4096, None
+        detune = xi32(self.whole_cents()) if cents else x64(self.factor())
+        for row in rng.sample([8, 13, 14, 16, 16, 1] if cents else [8, 13, 14, 14, 1], rng.randint(1, 4)):
             if row == 8:
                 output = rng.choice([0, 128, 4095, 4097])
             elif row == 13:
                 time = rng.choice([*NOT_FINITE, x64(-1.0), x64(math.nextafter(2.0**30, MAX)), x64(times[0])])
-            elif row == 14:
+            elif row == 14 and (cents or rng.random() < 0.5):
                 rate = rng.choice(["7F800000", "FF800000", "7FC00000", "FF800001"])
+            elif row == 14:
+                detune = rng.choice([*NOT_FINITE, *BAD_FACTORS])
             elif row == 16:
-                cents = rng.choice(BAD_CENTS) if rng.random() < 0.8 else rng.choice([1, -1]) * rng.randint(12001, 2**31 - 1)
+                detune = xi32(rng.choice(BAD_CENTS) if rng.random() < 0.8 else rng.choice([1, -1]) * rng.randint(12001, 2**31 - 1))
             else:
                 samples = rng.choice([601 * 32 + 1, 99999])
         lengths = "" if output == 4096 and samples is None else f" {output}" + ("" if samples is None else f" {samples}")
-        return f"D {time} {rate} {xi32(cents)}{lengths}"
+        return f"{'D' if cents else 'B'} {time} {rate} {detune}{lengths}"
 
     def refused(self, times):
         """A line that is refused wherever it stands, or nearly always."""
         rng = self.rng
         if self.cents and rng.random() < 0.3:
-            return self.refused_cents(times)
+            return self.refused_block(times, True)
         t, one = rng.choice(times), x64(1.0)
         big = math.nextafter(2.0**30, MAX)
         bad64 = rng.choice(NOT_FINITE)
@@ -315,6 +341,10 @@ class Generator:
     # ------------------------------------------------------------ scripts
 
     def script(self):
+        units = self.without_previews()
+        return self.meter.strewn(units) if self.previews else units
+
+    def without_previews(self):
         r = self.rng.random()
         if r < 0.3:
             return self.aligned()
@@ -327,6 +357,35 @@ class Generator:
         if r < 0.425:
             return self.large()
         return self.free()
+
+    def strewn(self, units):
+        """The script with previews before and behind its units, at times several, and at times a `Z` after them."""
+        rng = self.rng
+        times = [time_of(unit) for unit in units]
+        known = [time for time in times if time is not None] or [0.0, 1.0]
+        found = units[:1]
+        for i in range(1, len(units) + 1):
+            if rng.random() < 0.2:
+                before, after = range(i - 1, 0, -1), range(i, len(units))
+                last, coming = (next((units[k] for k in part if times[k] is not None), None) for part in (before, after))
+                found += [self.preview(last, coming, known) for _ in range(rng.choice([1, 1, 1, 1, 2, 3]))]
+                found += ["Z"] if rng.random() < 0.25 else []
+            found += units[i : i + 1]
+        return found
+
+    def preview(self, last, coming, times):
+        """Of the coming block, of the last one, refused, or of a block at any time about these."""
+        rng = self.rng
+        r = rng.random()
+        if coming and r < 0.45:
+            return previewed(coming)
+        if last and r < 0.55:
+            return previewed(last)
+        if r < 0.7:
+            return previewed(self.refused_block(times, rng.random() < 0.4))
+        time = time_of(coming or last) if (coming or last) and rng.random() < 0.7 else rng.choice(times)
+        time += rng.choice([0.0, 0.0, rng.random() * 0.001, 128 / 48000, 1.0])
+        return previewed(self.block(time, *(self.plain() if rng.random() < 0.3 else self.speed())))
 
     def aligned(self):
         """Rate 1, offset 0, a start at or before the first block: mostly aligned blocks."""

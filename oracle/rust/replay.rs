@@ -52,6 +52,16 @@ enum Detune {
     Cents(i32),
 }
 
+impl Detune {
+    fn factor(words: &mut Words) -> Result<Detune, Refusal> {
+        Ok(Detune::Factor(words.f64()?))
+    }
+
+    fn cents(words: &mut Words) -> Result<Detune, Refusal> {
+        Ok(Detune::Cents(words.i32()?))
+    }
+}
+
 struct Machine {
     alloc: Alloc,
     entries: Entries,
@@ -112,8 +122,10 @@ impl Machine {
         match words.word() {
             b"R" => self.fresh(line),
             b"C" | b"KF" | b"KT" | b"J" | b"V" | b"Q" => self.begin(line),
-            b"B" => self.block(words, |w| Ok(Detune::Factor(w.f64()?))),
-            b"D" => self.block(words, |w| Ok(Detune::Cents(w.i32()?))),
+            b"B" => self.block(b'B', words, Detune::factor),
+            b"D" => self.block(b'B', words, Detune::cents),
+            b"M" => self.block(b'M', words, Detune::factor),
+            b"N" => self.block(b'N', words, Detune::cents),
             b"Z" if words.ended() => self.show(),
             b"S" | b"T" | b"P" | b"E" | b"L" => self.message(line),
             _ => Err(0),
@@ -205,7 +217,8 @@ impl Machine {
         }
     }
 
-    fn block(&mut self, mut w: Words<'_>, detune: fn(&mut Words) -> Result<Detune, Refusal>) -> Result<(), Refusal> {
+    /// The answer begins with `letter`: a `B` plays a block, and any other previews it on a copy, which is dropped.
+    fn block(&mut self, letter: u8, mut w: Words<'_>, detune: fn(&mut Words) -> Result<Detune, Refusal>) -> Result<(), Refusal> {
         let player = self.player.as_mut().ok_or(0)?;
         let expected = player.shape.map_or(0, Shape::words);
         let (time, rate, detune) = (w.f64()?, w.f32()?, detune(&mut w)?);
@@ -221,6 +234,13 @@ impl Machine {
         };
         row_14_rates(rate, factor)?;
         check(samples == expected, 1)?;
+        let mut copy;
+        let player = if letter == b'B' {
+            player
+        } else {
+            copy = player.copied(&self.alloc);
+            &mut copy
+        };
         let Ok(keep) = catch_unwind(AssertUnwindSafe(|| player.process(time, rate, factor))) else {
             assert!(player.may_panic(), "a panic outside document 01's excepted cases");
             self.out.extend_from_slice(b"P\n");
@@ -229,20 +249,7 @@ impl Machine {
             return Ok(());
         };
         player.last = Some(time);
-        let state = player.state();
-        let out = &mut self.out;
-        out.push(b'B');
-        flag(out, keep);
-        flag(out, state.ended);
-        out.push(b' ');
-        let channels = player.outputs[0].channels();
-        put_decimal(out, channels.len() as u64);
-        put_f64(out, state.position);
-        out.push(b'\n');
-        for (c, channel) in channels.iter().enumerate() {
-            let bits = if state.aligned { bits } else { calculated };
-            put_runs(out, c as u64, channel.iter().map(bits));
-        }
+        put_block(&mut self.out, letter, keep, player);
         Ok(())
     }
 
@@ -272,6 +279,23 @@ impl Machine {
         }
         out.push(b'\n');
         Ok(())
+    }
+}
+
+/// What the block that was just played answers.
+fn put_block(out: &mut Vec<u8>, letter: u8, keep: bool, player: &Player) {
+    let state = player.state();
+    out.push(letter);
+    flag(out, keep);
+    flag(out, state.ended);
+    out.push(b' ');
+    let channels = player.outputs[0].channels();
+    put_decimal(out, channels.len() as u64);
+    put_f64(out, state.position);
+    out.push(b'\n');
+    for (c, channel) in channels.iter().enumerate() {
+        let bits = if state.aligned { bits } else { calculated };
+        put_runs(out, c as u64, channel.iter().map(bits));
     }
 }
 

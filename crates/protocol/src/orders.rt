@@ -13,8 +13,8 @@ use super::scan::value;
 use super::scan::word_end;
 
 // The kinds of order, in the order of the table in `order_of`: those that tell the player something,
-// the blocks, and those that leave the player alone. A pattern names a kind by its number,
-// since it takes no constant.
+// the blocks, the previews, and the others that leave the player alone. A pattern names a kind by its
+// number, since it takes no constant.
 pub const RATE: usize = 0;
 
 pub const START: usize = 1;
@@ -43,30 +43,42 @@ pub const CENTS_OUTPUT: usize = 12;
 
 pub const CENTS_SAMPLES: usize = 13;
 
-pub const SHOW: usize = 14;
+pub const PREVIEW: usize = 14;
 
-pub const COPY_FROM: usize = 15;
+pub const PREVIEW_OUTPUT: usize = 15;
 
-pub const COPY_TO: usize = 16;
+pub const PREVIEW_SAMPLES: usize = 16;
 
-pub const EXTEND: usize = 17;
+pub const PREVIEW_CENTS: usize = 17;
 
-pub const SPLIT: usize = 18;
+pub const PREVIEW_CENTS_OUTPUT: usize = 18;
 
-pub const CONVERT: usize = 19;
+pub const PREVIEW_CENTS_SAMPLES: usize = 19;
+
+pub const SHOW: usize = 20;
+
+pub const COPY_FROM: usize = 21;
+
+pub const COPY_TO: usize = 22;
+
+pub const EXTEND: usize = 23;
+
+pub const SPLIT: usize = 24;
+
+pub const CONVERT: usize = 25;
 
 // A line that is none of these; a call whose shape is outside the limits; a call whose words are
 // not all there, or nothing.
-pub const UNKNOWN: usize = 20;
+pub const UNKNOWN: usize = 26;
 
-pub const BAD_SHAPE: usize = 21;
+pub const BAD_SHAPE: usize = 27;
 
-pub const WAITING: usize = 22;
+pub const WAITING: usize = 28;
 
 // The room for a copy's destination; the protocol allows 16,777,216.
 const LEN_MAX: usize = 262_144;
 
-const OUTPUT_MAX: usize = 65_536;
+pub const OUTPUT_MAX: usize = 65_536;
 
 // The size of a shape outside the limits.
 const NO_SIZE: usize = 2_000_000_000;
@@ -98,20 +110,30 @@ pub fn size(channels: usize, frames: usize) -> usize
 // The words that an order waits for.
 fn wanted(kind: usize, n: Numbers) -> usize {
     match kind {
-        7 | 15 | 18 | 19 => size(n.a, n.b),
-        16 => size(n.a, n.b) + smaller(n.e, LEN_MAX),
-        17 => size(n.a, n.b) + size(n.d, n.e),
+        7 | 21 | 24 | 25 => size(n.a, n.b),
+        22 => size(n.a, n.b) + smaller(n.e, LEN_MAX),
+        23 => size(n.a, n.b) + size(n.d, n.e),
+        _ => 0,
+    }
+}
+
+// How many lengths the line of a block or of a preview names: the output's, and then the samples'.
+pub fn lengths(kind: usize) -> usize
+    ensures { λ r. ⌜ r ≤ 2 ⌝ }
+{
+    match kind {
+        9 | 12 | 15 | 18 => 1,
+        10 | 13 | 16 | 19 => 2,
         _ => 0,
     }
 }
 
 // Whether a length that the line names is above its bound.
 fn is_too_long(kind: usize, n: Numbers, room: usize) -> bool {
-    match kind {
-        9 | 12 => n.d > OUTPUT_MAX,
-        10 | 13 => n.d > OUTPUT_MAX || n.e > room,
-        15 | 16 => n.e > LEN_MAX,
-        _ => false,
+    match lengths(kind) {
+        1 => n.d > OUTPUT_MAX,
+        2 => n.d > OUTPUT_MAX || n.e > room,
+        _ => (kind == COPY_FROM || kind == COPY_TO) && n.e > LEN_MAX,
     }
 }
 
@@ -177,7 +199,7 @@ fn matched(line: &[u8], forms: &[u8]) -> Known {
 fn order_of(line: &[u8]) -> Known {
     matched(
         line,
-        b"R w\nS f f f\nT f\nP f\nE f\nL 0\nL 1\nC d d w\nB f w f\nB f w f d\nB f w f d d\nD f w w\nD f w w d\nD f w w d d\nZ\nKF d d d d d\nKT d d d d d\nJ d d w d d w\nV d d w d\nQ d d w w\n",
+        b"R w\nS f f f\nT f\nP f\nE f\nL 0\nL 1\nC d d w\nB f w f\nB f w f d\nB f w f d d\nD f w w\nD f w w d\nD f w w d d\nM f w f\nM f w f d\nM f w f d d\nN f w w\nN f w w d\nN f w w d d\nZ\nKF d d d d d\nKT d d d d d\nJ d d w d d w\nV d d w d\nQ d d w w\n",
     )
 }
 

@@ -141,11 +141,11 @@ fn converted_size(n: Numbers, len: usize) -> usize {
 // The length of the result, or of a split's first part.
 fn first_size(due: usize, n: Numbers, wanted: usize) -> usize {
     match due {
-        15 => n.e,
-        16 => size(n.a, n.b),
-        17 => wanted,
-        18 => size(n.a, n.d),
-        19 => converted_size(n, wanted),
+        21 => n.e,
+        22 => size(n.a, n.b),
+        23 => wanted,
+        24 => size(n.a, n.d),
+        25 => converted_size(n, wanted),
         _ => 0,
     }
 }
@@ -153,11 +153,11 @@ fn first_size(due: usize, n: Numbers, wanted: usize) -> usize {
 // Makes the call that is due.
 fn called(due: usize, n: Numbers, words: &[u32], first: &mut [u32]) {
     match due {
-        15 | 16 => {
+        21 | 22 => {
             let answer = copied(due, n, words, first);
             put_copied(answer, due, n, first)
         }
-        18 => split(n, words, first),
+        24 => split(n, words, first),
         _ => {
             let answer = made(due, n, words, first);
             put_made(answer, due, first)
@@ -168,13 +168,13 @@ fn called(due: usize, n: Numbers, words: &[u32], first: &mut [u32]) {
 // Answers an order that leaves the player alone.
 pub fn answered(due: usize, n: Numbers, player: Player, words: &[u32], first: &mut [u32]) {
     match due {
-        14 => shown(player),
-        15..=19 => {
+        20 => shown(player),
+        21..=25 => {
             let j = smaller(first_size(due, n, words.len()), first.len());
             called(due, n, words, &mut first[..j])
         }
-        20 => put_refusal(0),
-        21 => put_refusal(buffer::refusals::SHAPE),
+        26 => put_refusal(0),
+        27 => put_refusal(buffer::refusals::SHAPE),
         _ => {}
     }
 }

@@ -1,15 +1,15 @@
 // The lines that the player obeys.
-use player::BlockReport;
 use player::ControlMessage;
 use player::Handled;
 use player::Player;
 use player::Rendered;
-use protocol::orders::BLOCK;
-use protocol::orders::BLOCK_SAMPLES;
+use preview::Previewed;
 use protocol::orders::CENTS;
-use protocol::orders::CENTS_SAMPLES;
 use protocol::orders::CLIP;
+use protocol::orders::PREVIEW;
+use protocol::orders::PREVIEW_CENTS;
 use protocol::orders::RATE;
+use protocol::orders::lengths;
 use protocol::print::put_channels;
 use protocol::print::put_form;
 use protocol::print::put_line;
@@ -95,15 +95,19 @@ fn pattern(x: f64) -> usize {
     rounding::to_pattern_f64(x) as usize
 }
 
-fn put_report(report: BlockReport, out: &[u32]) {
-    let values = [
-        bit(report.keep_alive),
-        bit(report.ended),
-        report.channels,
-        pattern(report.position.0),
-    ];
-    put_form(b"B d d d f\n", &values);
-    put_channels(report.channels, 128, out)
+// A letter, what a block answers or would answer, and its output.
+fn put_report(
+    letter: u8,
+    keep_alive: bool,
+    ended: bool,
+    channels: usize,
+    position: f64,
+    out: &[u32],
+) {
+    let values = [bit(keep_alive), bit(ended), channels, pattern(position)];
+    put_form(&[letter], &[]);
+    put_form(b" d d d f\n", &values);
+    put_channels(channels, 128, out)
 }
 
 // The player that a block left, and the block printed.
@@ -113,28 +117,35 @@ fn reported(player: Player, answer: Rendered, out: &[u32]) -> Player {
             put_refusal(number);
             player
         }
-        Rendered::Block(report) => {
-            put_report(report, out);
-            report.player
+        Rendered::Block(r) => {
+            put_report(b'B', r.keep_alive, r.ended, r.channels, r.position.0, out);
+            r.player
         }
+    }
+}
+
+// A preview printed.
+fn put_preview(letter: u8, answer: Previewed, out: &[u32]) {
+    match answer {
+        Previewed::Refused(number) => put_refusal(number),
+        Previewed::Block(c) => put_report(
+            letter,
+            c.keep_alive,
+            c.ended,
+            c.channels,
+            c.position.0,
+            out,
+        ),
     }
 }
 
 // The length of the output that is lent, and below of the samples, where the line names them.
 fn output_length(due: usize, n: Numbers) -> usize {
-    if due == BLOCK || due == CENTS {
-        OUTPUT
-    } else {
-        n.d
-    }
+    if lengths(due) == 0 { OUTPUT } else { n.d }
 }
 
 fn samples_length(due: usize, n: Numbers, clip: usize) -> usize {
-    if due == BLOCK_SAMPLES || due == CENTS_SAMPLES {
-        n.e
-    } else {
-        clip
-    }
+    if lengths(due) == 2 { n.e } else { clip }
 }
 
 // A block by a factor, or in cents.
@@ -147,10 +158,26 @@ fn rendered(p: Player, due: usize, n: Numbers, samples: &[u32], out: &mut [u32])
     cents::process_cents(p, out, samples, time, rate, i32_of(n.c))
 }
 
-// `B` and `D` lines.
+// A preview by a factor, or in cents, printed.
+fn previewed(p: Player, due: usize, n: Numbers, samples: &[u32], out: &mut [u32]) {
+    let time = f64_of(n.a);
+    let rate = f32_of(n.b);
+    if due < PREVIEW_CENTS {
+        let answer = preview::preview(p, out, samples, time, rate, f64_of(n.c));
+        return put_preview(b'M', answer, out);
+    }
+    let answer = preview::preview_cents(p, out, samples, time, rate, i32_of(n.c));
+    put_preview(b'N', answer, out)
+}
+
+// `B` and `D` lines; and `M` and `N` lines, which leave the player as it was.
 pub fn block(m: Machine, due: usize, n: Numbers, clip: &[u32], out: &mut [u32]) -> Machine {
     let j = smaller(output_length(due, n), out.len());
     let k = smaller(samples_length(due, n, m.clip), clip.len());
+    if due >= PREVIEW {
+        previewed(m.player, due, n, &clip[..k], &mut out[..j]);
+        return m;
+    }
     let answer = rendered(m.player, due, n, &clip[..k], &mut out[..j]);
     Machine {
         player: reported(m.player, answer, out),

@@ -7,9 +7,11 @@ use super::control::block;
 use super::control::told;
 use libc::STDIN_FILENO;
 use player::Player;
-use protocol::orders::CENTS_SAMPLES;
 use protocol::orders::CLIP;
+use protocol::orders::OUTPUT_MAX;
 use protocol::orders::Order;
+use protocol::orders::PREVIEW;
+use protocol::orders::SHOW;
 use protocol::orders::due;
 use protocol::orders::heard;
 use protocol::orders::line_length;
@@ -73,6 +75,16 @@ fn next(r: Reading, piece: &mut [u8]) -> Reading
     refilled(piece, from, to)
 }
 
+// Where an output starts: a preview's stands behind a block's.
+fn output_start(due: usize, len: usize) -> usize
+    ensures { λ r. ⌜ r ≤ len ⌝ }
+{
+    if due < PREVIEW {
+        return 0;
+    }
+    smaller(OUTPUT_MAX, len)
+}
+
 // Obeys the order that is due, with its words.
 fn obeyed(m: Machine, order: Order, clip: &mut [u32], words: &[u32], first: &mut [u32]) -> Machine {
     let due = due(order);
@@ -81,8 +93,9 @@ fn obeyed(m: Machine, order: Order, clip: &mut [u32], words: &[u32], first: &mut
         let len = smaller(order.wanted, words.len());
         return told(m, due, n, &words[..len], clip);
     }
-    if due <= CENTS_SAMPLES {
-        return block(m, due, n, clip, first);
+    if due < SHOW {
+        let from = output_start(due, first.len());
+        return block(m, due, n, clip, &mut first[from..]);
     }
     let len = smaller(order.wanted, words.len());
     answered(due, n, m.player, &words[..len], first);

@@ -33,6 +33,18 @@ impl Player {
         }
     }
 
+    /// A copy for a preview: the renderer, with an output of its own. The node is a new one, and is sent no messages.
+    pub fn copied(&self, alloc: &Alloc) -> Self {
+        let renderer = self.context.renderer.borrow().as_ref().unwrap().copied();
+        let copy = Player::new(self.rate, alloc);
+        *copy.context.renderer.borrow_mut() = Some(renderer);
+        Player {
+            shape: self.shape,
+            last: self.last,
+            ..copy
+        }
+    }
+
     /// Row 1 was checked when the first line was read.
     pub fn clip(&mut self, shape: Shape, words: &[u32]) -> Result<(), Refusal> {
         row_2_rate(shape.rate)?;

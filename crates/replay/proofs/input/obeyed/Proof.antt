@@ -24,6 +24,21 @@ same-length c = search needs
 returns : tie.Need-returns
 returns c = search needs
 
+output-start-requires : tie.Need-output-start-requires
+output-start-requires c κs = search needs
+
+mul-block : tie.Need-mul-block
+mul-block c = search needs
+
+sub-block : tie.Need-sub-block
+sub-block c = search needs
+
+part-block-start : tie.Need-part-block-start
+part-block-start c = search needs
+
+part-block-end : tie.Need-part-block-end
+part-block-end c = search needs
+
 block-requires : tie.Need-block-requires
 block-requires c κs = search needs
 
@@ -61,6 +76,11 @@ obeyed-spec =
     told-requires
     same-length
     returns
+    output-start-requires
+    mul-block
+    sub-block
+    part-block-start
+    part-block-end
     block-requires
     same-length-2
     same-length-3
