@@ -1,7 +1,7 @@
 /* The runs of `replay bench` (oracle/rust/replay/bench.rs), of ours, and memcpy as the limit: lines `name ns`.
    Blocks are called from Rattle (crates/player_c), as the Rust's from Rust, and once more through the C library: names with `-c`, and
-   with `-cents` where the call is the one in cents: at 0 of them, and below at others. `-preview` is a preview before each block, and
-   `-twin` what a block takes in its place: the block call of a second player that goes beside the first. */
+   with `-cents` where the call is the one in cents: at 0 of them, and below at others. `-preview` are previews of the
+   players that stand before the first 256 blocks of a run, and `-shown` the block call on copies of them. */
 #include <math.h>
 #include <netthimble.h>
 #include <stdio.h>
@@ -11,9 +11,9 @@
 
 extern bool player_blocks(uint32_t *out, size_t out_len, const uint32_t *samples, size_t samples_len, size_t channels, size_t frames, bool looped, float rate, size_t blocks);
 
-enum { BLOCKS = 4000, MILLION = 1000000 };
+enum { BLOCKS = 4000, STATES = 256, MILLION = 1000000 };
 static const float RATE = 48000.0f;
-static uint32_t out[4096], second[4096];
+static uint32_t out[4096];
 
 static double now(void) {
     struct timespec t;
@@ -68,26 +68,31 @@ static double blocks_of(netthimble_player p, const uint32_t *words, size_t len, 
     return (now() - t) / BLOCKS;
 }
 
-/* Blocks of a player, each after a preview, or after the same block of a second player. */
-static double pairs_of(netthimble_player p, const uint32_t *words, size_t len, float rate, bool preview) {
-    netthimble_player twin = p;
+/* Previews of the players that stand before the first blocks of a run, in turn; or the block call on a copy of each. */
+static double shown_of(const netthimble_player *before, const uint32_t *words, size_t len, float rate, bool preview) {
+    static netthimble_player copies[BLOCKS];
+    for (size_t n = 0; n < BLOCKS; n++) copies[n] = before[n % STATES];
     double t = now();
     for (size_t n = 0; n < BLOCKS; n++) {
-        double time = (double)(128 * n) / RATE;
-        if (preview) must(netthimble_player_preview(&p, second, 4096, words, len, time, rate, 1.0).refusal);
-        else must(netthimble_player_process(&twin, second, 4096, words, len, time, rate, 1.0).refusal);
-        must(netthimble_player_process(&p, out, 4096, words, len, time, rate, 1.0).refusal);
+        double time = (double)(128 * (n % STATES)) / RATE;
+        if (preview) must(netthimble_player_preview(&copies[n], out, 4096, words, len, time, rate, 1.0).refusal);
+        else must(netthimble_player_process(&copies[n], out, 4096, words, len, time, rate, 1.0).refusal);
     }
     return (now() - t) / BLOCKS;
 }
 
 static void previewed(const char *name, netthimble_player p, const uint32_t *words, size_t len, float rate) {
-    double twins = 1e300, with = 1e300;
-    for (int turn = 0; turn < 3; turn++) {
-        twins = fmin(twins, pairs_of(p, words, len, rate, false));
-        with = fmin(with, pairs_of(p, words, len, rate, true));
+    netthimble_player before[STATES];
+    for (size_t n = 0; n < STATES; n++) {
+        before[n] = p;
+        must(netthimble_player_process(&p, out, 4096, words, len, (double)(128 * n) / RATE, rate, 1.0).refusal);
     }
-    printf("%s-twin %.1f\n%s-preview %.1f\n", name, twins / 2, name, with - twins / 2);
+    double block = 1e300, preview = 1e300;
+    for (int turn = 0; turn < 3; turn++) {
+        block = fmin(block, shown_of(before, words, len, rate, false));
+        preview = fmin(preview, shown_of(before, words, len, rate, true));
+    }
+    printf("%s-shown %.1f\n%s-preview %.1f\n", name, block, name, preview);
 }
 
 static double from_c(size_t channels, size_t frames, bool looped, float rate, const uint32_t *words, bool in_cents) {

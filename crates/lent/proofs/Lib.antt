@@ -1,8 +1,4 @@
--- What the proofs of `lent` share; those of the libraries for C cite the answers, the choice, the walk of a block over a lent player, and what a block leaves.
+-- What the proofs of `lent` share; those of `netthimble` cite the answers and the choice.
 pub mod Answers
-pub mod ByValue
 pub mod Choice
-pub mod Lent
-pub mod Looked
-pub mod Moved
 mod Mute

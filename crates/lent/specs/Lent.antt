@@ -1,7 +1,9 @@
 -- What a call on a lent player answers, and the player that it leaves, by what the call by value answers; and the answer of the factor. Definitions only.
 -- A refused call leaves the player as it was (document 01, 'Where a call is turned down': a refusal returns only its number).
-use mathlib.Core.Bool.{false}
+use mathlib.Core.Bool.{false, cond}
+use lib.Dec.{eqb}
 use lib.Ieee.{binary64, ofBits}
+use Rattle.buffer.specs.Refusals.{SPEED, CENTS}
 use Rattle.detune.specs.declared.Detune.{Detune}
 use Rattle.detune.specs.declared.Detune.the-variants as detune
 use Rattle.player.specs.declared.Player.{Player}
@@ -35,3 +37,13 @@ afterBlock p (rendered.Refused number) = record {
 unfoldable pub factorFor : Detune → Factored
 factorFor (detune.By factor) = record { factor = factor; refusal = 0 }
 factorFor (detune.Refused number) = record { factor = ofBits binary64 0; refusal = number }
+
+-- the answer of a block played with that factor: its refusal, 14, is the cents', 16; one that comes before keeps its number (document 02, 2.1)
+unfoldable pub inCents : BlockAnswer → BlockAnswer
+inCents a = record {
+  position = a .position;
+  channels = a .channels;
+  refusal = cond (eqb (a .refusal) SPEED) CENTS (a .refusal);
+  «keep_alive» = a .«keep_alive»;
+  ended = a .ended;
+}

@@ -5,10 +5,12 @@ ghost use mathlib.Core.Path.{_≡_};
 ghost use lib.ListN.{length};
 ghost use Rattle.player.specs.Messages.{handled, buffered};
 ghost use Rattle.player.specs.Block.{rendered, output};
-ghost use Rattle.cents.specs.Cents.{renderedCents, outputCents};
-ghost use Rattle.lent.specs.Lent.{afterCall, afterBlock, factorFor};
+ghost use Rattle.cents.specs.Cents.{renderedCents, outputCents, factoredAt};
+ghost use Rattle.lent.specs.Lent.{afterCall, afterBlock, factorFor, inCents};
 ghost use Rattle.lent.specs.Nobody.{noShape, nobody, NobodyPlays};
 use buffer::Shape;
+use buffer::refusals;
+use cents::factor_at;
 use cents::process_cents;
 use detune::Detune;
 use player::ControlMessage;
@@ -143,6 +145,38 @@ pub fn factor_for(detune: Detune) -> Factored
             factor: 0.0,
             refusal,
         },
+    }
+}
+
+// The factor that a block in cents asks for. No cents, at which a block may be quick, are told here,
+// where they cost no call.
+pub fn factor_of(p: Player, time: f64, cents: i32) -> Factored
+    ensures { λ r. ⌜ r ≡ factorFor (factoredAt 128 p time cents) ⌝ }
+{
+    if cents == 0 {
+        return Factored {
+            factor: 1.0,
+            refusal: 0,
+        };
+    }
+    factor_for(factor_at(p, time, cents))
+}
+
+// The answer of a block that was played with the factor of refused cents.
+pub fn in_cents(answer: BlockAnswer) -> BlockAnswer
+    ensures { λ r. ⌜ r ≡ inCents answer ⌝ }
+{
+    let position = answer.position;
+    let mut refusal = answer.refusal;
+    if refusal == refusals::SPEED {
+        refusal = refusals::CENTS;
+    }
+    BlockAnswer {
+        position,
+        channels: answer.channels,
+        refusal,
+        keep_alive: answer.keep_alive,
+        ended: answer.ended,
     }
 }
 

@@ -1,2 +1,3 @@
 -- What the proofs of `netthimble` share.
+mod InCents
 mod Same

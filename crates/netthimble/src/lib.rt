@@ -7,6 +7,7 @@ mod playing;
 
 use buffer::Shape;
 pub use playing::netthimble_player_process;
+pub use playing::netthimble_player_process_cents;
 pub use playing::netthimble_player_set_buffer;
 
 // The shape of a clip or of a buffer that is made.

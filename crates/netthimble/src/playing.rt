@@ -1,10 +1,11 @@
-// A fresh player, the messages, and the factor of cents, by value; the buffer call and the block call,
-// on the lent player, which is altered there, as the Rust's `&mut self` does.
+// A fresh player, the messages, and the factor of cents, by value; the buffer call and the blocks, on
+// the lent player, which is altered there, as the Rust's `&mut self` does.
 ghost use mathlib.Core.Path.{_≡_};
 ghost use lib.ListN.{length};
 ghost use Rattle.player.specs.Messages.{made, handled, buffered};
 ghost use Rattle.player.specs.Block.{rendered, output};
 ghost use Rattle.detune.specs.Detune.{factored};
+ghost use Rattle.cents.specs.Cents.{renderedCents, outputCents};
 ghost use Rattle.lent.specs.Lent.{afterCall, afterBlock, factorFor};
 ghost use Rattle.lent.specs.Nobody.{nobody};
 use lent::BlockAnswer;
@@ -14,6 +15,8 @@ use lent::after_call;
 use lent::block_by_value;
 use lent::buffer_by_value;
 use lent::factor_for;
+use lent::factor_of;
+use lent::in_cents;
 use lent::message_by_value;
 use lent::nobody;
 use player::ControlMessage;
@@ -117,6 +120,31 @@ pub extern "C" fn netthimble_factor(cents: i32) -> Factored
     ensures { λ r. ⌜ r ≡ factorFor (factored cents) ⌝ }
 {
     factor_for(detune::factor(cents))
+}
+
+// Renders a block into the lent output, detuned by whole cents: the block call itself, with the
+// factor that it asks for. So the player's code stands in the library once.
+#[no_mangle]
+pub extern "C" fn netthimble_player_process_cents(
+    p: &mut Player,
+    out: &mut [u32],
+    samples: &[u32],
+    time: f64,
+    rate: f32,
+    cents: i32,
+) -> BlockAnswer
+    ensures { λ r. ⌜
+        (r
+        ≡ afterBlock (now (p .entry)) (renderedCents 128 (now (p .entry)) (length (now (out .entry))) (length (now (samples .entry))) time rate cents) .answer)
+        × (now (p .exit)
+        ≡ afterBlock (now (p .entry)) (renderedCents 128 (now (p .entry)) (length (now (out .entry))) (length (now (samples .entry))) time rate cents) .player)
+        × (now (out .exit) ≡ outputCents 128 (now (p .entry)) (now (out .entry)) (now (samples .entry)) time rate cents) ⌝ }
+{
+    let f = factor_of(*p, time, cents);
+    if f.refusal == 0 {
+        return netthimble_player_process(p, out, samples, time, rate, f.factor);
+    }
+    in_cents(netthimble_player_process(p, out, samples, time, rate, f.factor))
 }
 
 // The bytes of a player's record.

@@ -1,13 +1,12 @@
 -- The output as the loop over the channels makes it: its length stays, and in a turn the part that was lent comes back written. Assumes nothing.
-use mathlib.Core.Path.{_≡_, refl, sym, ap, _∙_}
+use mathlib.Core.Path.{_≡_, _∙_}
 use mathlib.Core.List.{List, _++_}
-use Prim.Native.Nat.{ℕ, zero, suc, _+_, _-_, _*_, _≤_, _<_, min}
+use Prim.Native.Nat.{ℕ, zero, suc, _+_, _-_, _*_, _≤_, _<_}
 use native.Mathlib.Numerals.{add-one}
 use native.Mathlib.Omega.{arith}
 use lib.ListN.{length, take, drop, length-drop}
-use lib.Seq.{length-take-le, take-all}
-use Rattle.buffer.specs.Channels.{channel}
-use Rattle.lists.specs.Table.{table, filled, length-table, filled-end}
+use lib.Seq.{length-take-le}
+use Rattle.lists.specs.Table.{table, length-table}
 use Rattle.lists.specs.Parts.{put, length-put}
 use Rattle.player.specs.Block.{written}
 
@@ -32,16 +31,3 @@ module _ (sample : List ℕ → ℕ → ℕ) (frames : ℕ) (samples out₀ : Li
   unfolding written put
   turn c out part full below so-far back =
       rw (back, part-length (128 * c) 128 out (omega arith), span (128 * c) 128, span (frames * c) frames, so-far, add-one)
-
--- one channel: its frames are all of the samples
-pub alone : (sample : List ℕ → ℕ → ℕ) (frames count : ℕ) (samples out part : List ℕ) → count ≡ 1 → length samples ≡ count * frames → length out ≡ 4096
-    → part ≡ filled (min (length (take 128 out)) 128) (sample samples) (take 128 out) → part ++ drop 128 out ≡ written 128 sample frames samples out count
-unfolding written put
-alone sample frames count samples out part one all whole back =
-    let first : length (take 128 out) ≡ 128 = length-take-le 128 out (omega arith) in
-    let none : frames * 0 ≡ 0 = omega arith in
-    let own : channel samples frames 0 ≡ samples =
-    ap (λ (n : ℕ). take frames (drop n samples)) none ∙ take-all frames samples (omega (arith, all ∙ ap (λ (n : ℕ). n * frames) one)) in
-    let full : part ≡ table 128 (sample (channel samples frames 0)) =
-    filled-end _ _ _ _ back (rw first refl) ∙ ap (λ (n : ℕ). table n (sample samples)) first ∙ ap (λ (l : List ℕ). table 128 (sample l)) (sym own) in
-    ap (λ (l : List ℕ). l ++ drop 128 out) full ∙ ap (written 128 sample frames samples out) (sym one)

@@ -29,9 +29,7 @@ pub(crate) fn write_aligned(
     }
 }
 
-// The same of a sub-sample block, by the arrays that its infos fill. One channel is a case of its own,
-// so that two places call the channel's writer: the compiler then leaves its loop apart, with all
-// registers to itself.
+// The same of a sub-sample block, by the arrays that its infos fill.
 pub(crate) fn write_interpolated<'a>(
     out: &mut [u32],
     samples: &[u32],
@@ -46,11 +44,6 @@ pub(crate) fn write_interpolated<'a>(
     ensures { λ _. ⌜ now (out .exit)
         ≡ written 128 (sampleBy s (now (frame .entry)) (now (fraction .entry)) (now (present .entry))) frames (now (samples .entry)) (now (out .entry)) count ⌝ }
 {
-    if count == 1 {
-        let part = &mut out[0..128];
-        interpolated::write_channel(part, samples, s, frame, fraction, present);
-        return;
-    }
     let mut c = 0;
     while c < count {
         let a = 128 * c;

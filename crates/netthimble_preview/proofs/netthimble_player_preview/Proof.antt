@@ -1,12 +1,12 @@
--- `netthimble_preview::netthimble_player_preview` meets its contract: it is one of the functions of `lent/proofs/Looked.antt`, with the factor for its last parameter. Assumes nothing.
+-- `netthimble_preview::netthimble_player_preview` meets its contract: it is one of the functions of `thin/proofs/Looked.antt`, with the factor for its last parameter. Assumes nothing.
 use lib.Ieee.{binary64}
 use contract.Running.{givenOf}
 use denote.Floats.{float-lawful}
 use Rattle.player.specs.Block.{output}
 use Rattle.lent.proofs.block_by_value.Symbol as core-def
 use Rattle.lent.proofs.block_by_value.Met as core-thm
-use Rattle.lent.proofs.ByValue.{by-factor, block-answer}
-use Rattle.lent.proofs.Looked.{looked-meets}
+use Rattle.thin.proofs.ByValue.{by-factor, block-answer}
+use Rattle.thin.proofs.Looked.{looked-meets}
 use Rattle.netthimble_preview.proofs.netthimble_player_preview.Key.{name}
 use Rattle.netthimble_preview.proofs.netthimble_player_preview.Statement as stated
 use Rattle.netthimble_preview.proofs.netthimble_player_preview.Code as code

@@ -1,12 +1,12 @@
--- `netthimble_preview_cents::netthimble_player_preview_cents` meets its contract: it is one of the functions of `lent/proofs/Looked.antt`, with the cents for its last parameter. Assumes nothing.
+-- `netthimble_preview_cents::netthimble_player_preview_cents` meets its contract: it is one of the functions of `thin/proofs/Looked.antt`, with the cents for its last parameter. Assumes nothing.
 use mir.Syntax.{w32}
 use contract.Running.{givenOf}
 use denote.Signed.{sint-lawful}
 use Rattle.cents.specs.Cents.{outputCents}
 use Rattle.lent.proofs.cents_by_value.Symbol as core-def
 use Rattle.lent.proofs.cents_by_value.Met as core-thm
-use Rattle.lent.proofs.ByValue.{by-cents, cents-answer}
-use Rattle.lent.proofs.Looked.{looked-meets}
+use Rattle.thin.proofs.ByValue.{by-cents, cents-answer}
+use Rattle.thin.proofs.Looked.{looked-meets}
 use Rattle.netthimble_preview_cents.proofs.netthimble_player_preview_cents.Key.{name}
 use Rattle.netthimble_preview_cents.proofs.netthimble_player_preview_cents.Statement as stated
 use Rattle.netthimble_preview_cents.proofs.netthimble_player_preview_cents.Code as code

@@ -1,4 +1,4 @@
--- `netthimble::playing::netthimble_player_process` meets its contract: it is one of the functions of `lent/proofs/Lent.antt`, with the factor for its last parameter. Assumes nothing.
+-- `netthimble::playing::netthimble_player_process` meets its contract: it is one of the functions of `thin/proofs/Lent.antt`, with the factor for its last parameter. Assumes nothing.
 use lib.ListN.{length}
 use lib.Ieee.{binary64}
 use contract.Running.{givenOf}
@@ -6,9 +6,9 @@ use denote.Floats.{float-lawful}
 use Rattle.player.specs.Block.{output}
 use Rattle.lent.proofs.block_by_value.Symbol as core-def
 use Rattle.lent.proofs.block_by_value.Met as core-thm
-use Rattle.lent.proofs.ByValue.{by-factor, block-answer}
-use Rattle.lent.proofs.Lent.{lent-meets}
-use Rattle.lent.proofs.Moved.{leaves}
+use Rattle.thin.proofs.ByValue.{by-factor, block-answer}
+use Rattle.thin.proofs.Lent.{lent-meets}
+use Rattle.thin.proofs.Moved.{leaves}
 use Rattle.netthimble.proofs.playing.netthimble_player_process.Key.{name}
 use Rattle.netthimble.proofs.playing.netthimble_player_process.Statement as stated
 use Rattle.netthimble.proofs.playing.netthimble_player_process.Code as code

@@ -6,7 +6,7 @@ use lib.ListN.{length}
 use Rattle.lists.specs.Rows.{row-fits}
 use Rattle.lists.specs.Table.{filled-end}
 use Rattle.player.specs.Block.{written}
-use Rattle.player.proofs.Written.{turn, alone, length-written}
+use Rattle.player.proofs.Written.{turn, length-written}
 use Rattle.interpolated.specs.Interpolated.{sampleBy}
 use Rattle.player.proofs.Written.{part-length}
 use borrow.Author.Needs.{needs}
@@ -19,27 +19,6 @@ Inv-loop out₀ samples frames count s frame fraction present c₀ out c = (c �
 abbrev μ-loop : tie.MeasureT-loop
 μ-loop out₀ samples frames count s frame fraction present c₀ out c = count - c
 
-sub-part : tie.Need-sub-part Inv-loop μ-loop
-sub-part c = search needs
-
-part-part-start : tie.Need-part-part-start Inv-loop μ-loop
-part-part-start c = search needs
-
-part-part-end : tie.Need-part-part-end Inv-loop μ-loop
-part-part-end c = search needs
-
-write-channel-requires : tie.Need-write-channel-requires Inv-loop μ-loop
-write-channel-requires c κs = search needs
-
-same-length : tie.Need-same-length Inv-loop μ-loop
-same-length c = search needs
-
--- one channel
-returns : tie.Need-returns Inv-loop μ-loop
-returns c =
-    let s = c .before .before .before .before .before .before .before in
-    alone _ (s .args .frames) (s .args .count) (s .args .samples .now) (s .args .out .now) _ (omega arith) (omega arith) (omega arith) (c .before .before .write-channel .ensures)
-
 loop-holds : tie.Need-loop-holds Inv-loop μ-loop
 unfolding written
 loop-holds c = (search needs, search needs, refl)
@@ -48,7 +27,7 @@ mul-a : tie.Need-mul-a Inv-loop μ-loop
 mul-a c = search needs
 
 mul-b : tie.Need-mul-b Inv-loop μ-loop
-mul-b c = omega (arith, row-fits (c .before .before .before .before .before .args .frames) (c .before .loop .c) (c .before .before .before .before .before .args .count) (c .loop-test .taken))
+mul-b c = omega (arith, row-fits (c .before .before .before .before .args .frames) (c .before .loop .c) (c .before .before .before .before .args .count) (c .loop-test .taken))
 
 add-write-channel : tie.Need-add-write-channel Inv-loop μ-loop
 add-write-channel c = search needs
@@ -66,10 +45,10 @@ part-write-channel-end : tie.Need-part-write-channel-end Inv-loop μ-loop
 part-write-channel-end c = search needs
 
 add-write-channel-2 : tie.Need-add-write-channel-2 Inv-loop μ-loop
-add-write-channel-2 c = omega (arith, row-fits (c .before .before .before .before .before .before .args .frames) (c .before .before .loop .c) (c .before .before .before .before .before .before .args .count) (c .before .loop-test .taken))
+add-write-channel-2 c = omega (arith, row-fits (c .before .before .before .before .before .args .frames) (c .before .before .loop .c) (c .before .before .before .before .before .args .count) (c .before .loop-test .taken))
 
 mul-write-channel-2 : tie.Need-mul-write-channel-2 Inv-loop μ-loop
-mul-write-channel-2 c = omega (arith, row-fits (c .before .before .before .before .before .before .args .frames) (c .before .before .loop .c) (c .before .before .before .before .before .before .args .count) (c .before .loop-test .taken))
+mul-write-channel-2 c = omega (arith, row-fits (c .before .before .before .before .before .args .frames) (c .before .before .loop .c) (c .before .before .before .before .before .args .count) (c .before .loop-test .taken))
 
 sub-write-channel-2 : tie.Need-sub-write-channel-2 Inv-loop μ-loop
 sub-write-channel-2 c = search needs
@@ -78,10 +57,10 @@ part-write-channel-start-2 : tie.Need-part-write-channel-start-2 Inv-loop μ-loo
 part-write-channel-start-2 c = search needs
 
 part-write-channel-end-2 : tie.Need-part-write-channel-end-2 Inv-loop μ-loop
-part-write-channel-end-2 c = omega (arith, row-fits (c .before .before .before .before .before .before .args .frames) (c .before .before .loop .c) (c .before .before .before .before .before .before .args .count) (c .before .loop-test .taken))
+part-write-channel-end-2 c = omega (arith, row-fits (c .before .before .before .before .before .args .frames) (c .before .before .loop .c) (c .before .before .before .before .before .args .count) (c .before .loop-test .taken))
 
-write-channel-requires-2 : tie.Need-write-channel-requires-2 Inv-loop μ-loop
-write-channel-requires-2 c κs = search needs
+write-channel-requires : tie.Need-write-channel-requires Inv-loop μ-loop
+write-channel-requires c κs = search needs
 
 add-c : tie.Need-add-c Inv-loop μ-loop
 add-c c = search needs
@@ -93,15 +72,15 @@ loop-again : tie.Need-loop-again Inv-loop μ-loop
 loop-again c =
     let at = c .before .before .before .before .before .before .loop in
     let whole = part-length (128 * at .c) 128 (at .out) (omega arith) in
-    let part = filled-end _ _ _ _ (c .before .before .write-channel2 .ensures) (omega (arith, whole)) in
+    let part = filled-end _ _ _ _ (c .before .before .write-channel .ensures) (omega (arith, whole)) in
     let made = turn _ _ _ _ (omega arith) _ _ _ (at .inv .1) (omega arith) (at .inv .2) part in
     (search needs, ap length made ∙ length-written _ _ _ _ (omega arith) _ (omega arith), made)
 
-same-length-2 : tie.Need-same-length-2 Inv-loop μ-loop
-same-length-2 c = search needs
+same-length : tie.Need-same-length Inv-loop μ-loop
+same-length c = search needs
 
-returns-2 : tie.Need-returns-2 Inv-loop μ-loop
-returns-2 c = rw (c .before .loop .inv .2) (ap (written 128 _ _ _ _) (omega arith))
+returns : tie.Need-returns Inv-loop μ-loop
+returns c = rw (c .before .loop .inv .2) (ap (written 128 _ _ _ _) (omega arith))
 
 pub write-interpolated-spec : {M : Type 1} → statement M
-write-interpolated-spec = tie.close (tie.spec Inv-loop μ-loop sub-part part-part-start part-part-end write-channel-requires same-length returns loop-holds mul-a mul-b add-write-channel mul-write-channel sub-write-channel part-write-channel-start part-write-channel-end add-write-channel-2 mul-write-channel-2 sub-write-channel-2 part-write-channel-start-2 part-write-channel-end-2 write-channel-requires-2 add-c loop-less loop-again same-length-2 returns-2)
+write-interpolated-spec = tie.close (tie.spec Inv-loop μ-loop loop-holds mul-a mul-b add-write-channel mul-write-channel sub-write-channel part-write-channel-start part-write-channel-end add-write-channel-2 mul-write-channel-2 sub-write-channel-2 part-write-channel-start-2 part-write-channel-end-2 write-channel-requires add-c loop-less loop-again same-length returns)

@@ -47,16 +47,16 @@ use denote.Triple.Table.{entered, cited}
 use denote.Triple.Walked.{says, Stays, stay-none-ref, gave-slice, stay-none-slice, stay-none, walkOf, AllGo, goes-none, goes-none-slice, goes-gave-slice, goes-none-ref, Walks, ends-at, walked, walk-meets}
 use denote.Exit.{yes}
 use Rattle.player.specs.declared.Player.{Player}
 use Rattle.lent.specs.declared.Blocked.{Blocked}
 use Rattle.lent.specs.declared.BlockAnswer.{BlockAnswer}
 use Rattle.player.proofs.Player as T
 use Rattle.player.proofs.Player.Laws as T′
 use Rattle.lent.proofs.Blocked as R
 use Rattle.lent.proofs.Blocked.Laws as R′
 use Rattle.lent.proofs.BlockAnswer as N
 use Rattle.lent.proofs.BlockAnswer.Laws as N′
 use Rattle.lent.proofs.Answers.{vals, spelled}
-use Rattle.lent.proofs.ByValue.{One, answered, next, told, row, core-signature, core-ended, Answers, Outputs, core-clauses, makes, Samples, Core, tokens, passed, to-core, goes-core}
+use Rattle.thin.proofs.ByValue.{One, answered, next, told, row, core-signature, core-ended, Answers, Outputs, core-clauses, makes, Samples, Core, tokens, passed, to-core, goes-core}
 
 -- ---- the code, by the last parameter's type and the callee
 abbrev pub thin : Ty → Name → Fn

@@ -3,17 +3,14 @@ use mathlib.Core.Path.{_≡_, refl}
 use mathlib.Core.Bool.{Bool, true, false, not, _&&_, cond}
 use Prim.Native.Nat.{ℕ}
 use lib.Dec.{eqb}
-use lib.IntN.{ℤ}
 use lib.Ieee.{Float, le, ne}
-use Rattle.detune.specs.Detune.{factorOf}
-use Rattle.cents.specs.Cents.{centsRefusal, renderedCents}
 use Rattle.player.specs.Block.{Plan, silent, idle, computedRate, isAligned, alignedPlan, subSamplePlan, plan, refusal, reportOf, rendered}
 use Rattle.player.specs.declared.Player.{Player}
 use Rattle.player.specs.declared.Rendered.{Rendered}
 use Rattle.player.specs.declared.Rendered.the-variants.{Block, Refused}
 use Rattle.seconds.specs.Seconds.{never, blockEnd}
 use Rattle.lent.specs.Lent.{afterBlock}
 use Rattle.lent.proofs.Choice.{either}
 
 -- p with the start time, the offset, what is rendered and the last accepted block's time of q
 abbrev pub movedTo : Player → Player → Player
@@ -56,17 +53,12 @@ keeps n p time rate factor =
 record Leaves (p : Player) (a : Rendered) : Type 0 where
   left : movedTo p (afterBlock p a .player) ≡ afterBlock p a .player
 
-answer-leaves : (p : Player) (n : ℕ) (time rate factor : Float) (number : ℕ) → Leaves p (cond (eqb number 0) (Block (reportOf (plan n p time rate factor))) (Refused number))
-unfolding afterBlock
-answer-leaves p n time rate factor number =
-    either (Leaves p) (eqb number 0) (Block (reportOf (plan n p time rate factor))) (Refused number) (record { left = keeps n p time rate factor .kept }) (record { left = refl })
+block-leaves : (p : Player) (n outLength samplesLength : ℕ) (time rate factor : Float) → Leaves p (rendered n p outLength samplesLength time rate factor)
+unfolding rendered afterBlock
+block-leaves p n outLength samplesLength time rate factor =
+    let no = refusal n p outLength samplesLength time rate factor in
+    either (Leaves p) (eqb no 0) (Block (reportOf (plan n p time rate factor))) (Refused no) (record { left = keeps n p time rate factor .kept }) (record { left = refl })
 
 pub leaves : (p : Player) (n outLength samplesLength : ℕ) (time rate factor : Float)
     → movedTo p (afterBlock p (rendered n p outLength samplesLength time rate factor) .player) ≡ afterBlock p (rendered n p outLength samplesLength time rate factor) .player
-unfolding rendered
-leaves p n outLength samplesLength time rate factor = answer-leaves p n time rate factor (refusal n p outLength samplesLength time rate factor) .left
-
-pub leaves-cents : (p : Player) (n outLength samplesLength : ℕ) (time rate : Float) (cents : ℤ)
-    → movedTo p (afterBlock p (renderedCents n p outLength samplesLength time rate cents) .player) ≡ afterBlock p (renderedCents n p outLength samplesLength time rate cents) .player
-unfolding renderedCents
-leaves-cents p n outLength samplesLength time rate cents = answer-leaves p n time rate (factorOf cents) (centsRefusal n p outLength samplesLength time rate cents) .left
+leaves p n outLength samplesLength time rate factor = block-leaves p n outLength samplesLength time rate factor .left
