@@ -1,6 +1,6 @@
 -- Previews among the calls: the others give what they give without them, and a preview shows what the block gives. Assumes nothing.
 use mathlib.Core.Path.{_≡_, refl, sym, ap, _∙_}
-use mathlib.Core.Bool.{Bool, true, false, cond, true≢false, false≢true}
+use mathlib.Core.Bool.{Bool, true, false, cond, false≢true}
 use mathlib.Core.List.{List, [], _∷_}
 use Prim.Native.Nat.{ℕ}
 use lib.Dec.{eqb}
@@ -18,7 +18,7 @@ use Rattle.cents.specs.Cents.{centsRefusal, renderedCents, outputCents}
 use Rattle.preview.specs.Preview.{shown, previewed, previewedCents, previewAnswer}
 use Rattle.preview.specs.declared.Previewed.{Previewed}
 use Rattle.preview.specs.declared.Previewed.the-variants.{Block, Refused}
-use Rattle.claims.specs.Calls.{Call, outputBy}
+use Rattle.claims.specs.Calls.{Call}
 use Rattle.claims.specs.Longer.{LongerCall, plain, inCents, preview, previewInCents, Given, looked, Outcome, outcome, outcomeLonger, isLeftOut, asCall, replaced, isPreview, unlooked, outcomesLonger, others, left, seen, shownBy}
 
 -- ---- the player stays

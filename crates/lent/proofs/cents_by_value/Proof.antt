@@ -1,6 +1,5 @@
 -- `lent::cents_by_value` meets its contract. Assumes nothing.
 use mathlib.Core.Path.{_≡_, ap, _∙_}
-use lib.IntN.{ℤ}
 use lib.ListN.{length}
 use mir.Syntax.{w32}
 use mir.Val.{toZ, ofZ}
