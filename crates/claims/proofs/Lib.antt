@@ -16,4 +16,5 @@ pub mod Run
 pub mod Conclude
 pub mod Whole
 pub mod Longer
+pub mod Samples
 pub mod Unseen

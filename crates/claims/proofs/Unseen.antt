@@ -7,19 +7,20 @@ use lib.Dec.{eqb}
 use lib.IntN.{ℤ}
 use lib.ListN.{length}
 use lib.Ieee.{Float}
-use Rattle.detune.specs.Detune.{factorOf}
+use Rattle.detune.specs.Detune.{badCents, factorOf}
 use Rattle.player.specs.Answers.{blockAnswer}
 use Rattle.player.specs.Block.{plan, refusal, reportOf, rendered, output}
 use Rattle.player.specs.declared.Player.{Player}
 use Rattle.player.specs.declared.BlockReport.{BlockReport}
 use Rattle.player.specs.declared.Rendered.{Rendered}
-use Rattle.player.specs.declared.Rendered.the-variants as block
+use Rattle.player.specs.declared.Rendered.the-variants as rendered
 use Rattle.cents.specs.Cents.{centsRefusal, renderedCents, outputCents}
 use Rattle.preview.specs.Preview.{shown, previewed, previewedCents, previewAnswer}
 use Rattle.preview.specs.declared.Previewed.{Previewed}
 use Rattle.preview.specs.declared.Previewed.the-variants.{Block, Refused}
-use Rattle.claims.specs.Calls.{Call}
-use Rattle.claims.specs.Longer.{LongerCall, plain, inCents, preview, previewInCents, Given, looked, Outcome, outcome, outcomeLonger, isLeftOut, asCall, replaced, isPreview, unlooked, outcomesLonger, others, left, seen, shownBy}
+use Rattle.claims.specs.Calls.{Call, block}
+use Rattle.claims.proofs.Samples.{alike}
+use Rattle.claims.specs.Longer.{LongerCall, plain, inCents, preview, previewInCents, Given, looked, Outcome, outcome, outcomeLonger, isLeftOut, asCall, replaced, isPreview, unlooked, outcomesLonger, others, left, seen, shownBy, SameBlock}
 
 -- ---- the player stays
 stays : (p : Player) (c : LongerCall) → isPreview c ≡ true → outcomeLonger p c .player ≡ p
@@ -78,8 +79,8 @@ replaced-same p (c ∷ cs) = replaced-step p c cs (isPreview c) refl (replaced-s
 -- ---- what is shown
 seen-shown : (r : Rendered) → previewAnswer (shown r) ≡ seen (blockAnswer r)
 unfolding shown
-seen-shown (block.Block r) = refl
-seen-shown (block.Refused number) = refl
+seen-shown (rendered.Block r) = refl
+seen-shown (rendered.Refused number) = refl
 
 module _ (p : Player) (between : List LongerCall) (none : unlooked between ≡ []) (out samples : List ℕ) (time rate : Float) where
   pub foretold : (factor : Float) → outcomeLonger p (preview out samples time rate factor) ≡ shownBy p (outcome (left p between) (asCall (preview out samples time rate factor)))
@@ -94,13 +95,40 @@ module _ (p : Player) (between : List LongerCall) (none : unlooked between ≡ [
       rw (between-stays p between none)
       (ap (λ (a : Given). record { answer = a; player = p; output = outputCents 128 p out samples time rate cents }) (ap looked (seen-shown (renderedCents 128 p (length out) (length samples) time rate cents))))
 
+-- ---- into another output
+module _ (p : Player) (second out samples : List ℕ) (same : length second ≡ length out) (time rate : Float) where
+  same-block : (factor : Float) → SameBlock (outcomeLonger p (preview second samples time rate factor)) (outcome p (block out samples time rate factor))
+  unfolding previewed rendered refusal output
+  same-block factor = record {
+    answer =
+        ap looked (seen-shown (rendered 128 p (length second) (length samples) time rate factor))
+        ∙ ap (λ (n : ℕ). looked (seen (blockAnswer (rendered 128 p n (length samples) time rate factor)))) same;
+    samples = alike p samples time rate factor false second out same;
+  }
+
+  same-in-cents : (cents : ℤ) → SameBlock (outcomeLonger p (previewInCents second samples time rate cents)) (outcomeLonger p (inCents out samples time rate cents))
+  unfolding previewedCents renderedCents centsRefusal outputCents
+  same-in-cents cents = record {
+    answer =
+        ap looked (seen-shown (renderedCents 128 p (length second) (length samples) time rate cents))
+        ∙ ap (λ (n : ℕ). looked (seen (blockAnswer (renderedCents 128 p n (length samples) time rate cents)))) same;
+    samples = alike p samples time rate (factorOf cents) (badCents cents) second out same;
+  }
+
+  module _ (between : List LongerCall) (none : unlooked between ≡ []) where
+    pub any-output : (factor : Float) → SameBlock (outcomeLonger p (preview second samples time rate factor)) (outcome (left p between) (block out samples time rate factor))
+    any-output factor = rw (between-stays p between none) (same-block factor)
+
+    pub any-output-in-cents : (cents : ℤ) → SameBlock (outcomeLonger p (previewInCents second samples time rate cents)) (outcomeLonger (left p between) (inCents out samples time rate cents))
+    any-output-in-cents cents = rw (between-stays p between none) (same-in-cents cents)
+
 -- ---- a refused preview
 -- the number tells: an answer that is refused comes with a number that is not 0
 abbrev isShown : Previewed → Bool
 isShown (Block k) = true
 isShown (Refused number) = false
 
-told-by : (b : Bool) (report : BlockReport) (why : ℕ) → isShown (shown (cond b (block.Block report) (block.Refused why))) ≡ b
+told-by : (b : Bool) (report : BlockReport) (why : ℕ) → isShown (shown (cond b (rendered.Block report) (rendered.Refused why))) ≡ b
 unfolding shown
 told-by true report why = refl
 told-by false report why = refl

@@ -98,9 +98,10 @@ pub record MetLonger (calls : List LongerCall) (left blocks : ℕ) : Type 0 wher
   pub leftOut : length calls ≡ left + length (replaced (fresh rate) calls)
   pub met : Met (replaced (fresh rate) calls) blocks
 
--- the premises of the claim about previews are met: previews alone, and refused ones, by 8 and by 16
+-- the premises of the claim about previews are met: previews alone, two outputs of one length that held other words, and refused previews, by 8 and 16
 pub record MetPreviews : Type 0 where
   pub between : unlooked betweenCalls ≡ []
+  pub lengths : length {A = ℕ} (replicate 4096 9) ≡ length {A = ℕ} (replicate 4096 7)
   pub short : previewed 128 (fresh rate) 128 3 none one one ≡ Refused LENGTH
   pub far : previewedCents 128 (fresh rate) 4096 3 none one (pos 12001) ≡ Refused CENTS
 

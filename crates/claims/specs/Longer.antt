@@ -3,10 +3,10 @@
 use mathlib.Core.Path.{_≡_}
 use mathlib.Core.Bool.{Bool, true, false, not, _&&_, cond}
 use mathlib.Core.List.{List, [], _∷_}
-use Prim.Native.Nat.{ℕ}
+use Prim.Native.Nat.{ℕ, _+_, _*_, _<_}
 use lib.Dec.{T}
 use lib.IntN.{ℤ, pos}
-use lib.ListN.{length}
+use lib.ListN.{length, getD}
 use lib.Ieee.{Float, binary32, binary64, fits}
 use Rattle.seconds.specs.Seconds.{one}
 use Rattle.buffer.specs.Answers as answers
@@ -23,7 +23,7 @@ use Rattle.cents.specs.Cents.{renderedCents, outputCents}
 use Rattle.preview.specs.Preview.{previewed, previewedCents, previewAnswer}
 use Rattle.preview.specs.declared.Coming.{Coming}
 use Rattle.preview.specs.declared.Previewed.the-variants.{Refused}
-use Rattle.claims.specs.Calls.{Call, buffer, message, block, typed, isBlock, moved, next, accepted, outputBy}
+use Rattle.claims.specs.Calls.{Call, buffer, message, block, typed, channelsOr, isBlock, moved, next, accepted, outputBy}
 use Rattle.claims.specs.LongRun.{Premises, Holds}
 
 -- A call of demand 3; or a block in cents with all that is handed in: the output, the samples, time, rate and cents; or a preview of a block, its output
@@ -168,6 +168,16 @@ lookedAt (looked a) = looked a
 abbrev pub shownBy : Player → Outcome → Outcome
 shownBy p o = record { answer = lookedAt (o .answer); player = p; output = o .output }
 
+-- a preview and a block that show and give the same, into outputs that held whatever they held: in the answer, and in every sample of the answered channels
+abbrev pub channelsIn : Given → ℕ
+channelsIn (told a) = 0
+channelsIn (played a) = channelsOr a
+channelsIn (looked a) = 0
+
+pub record SameBlock (shows gives : Outcome) : Type 0 where
+  pub answer : shows .answer ≡ lookedAt (gives .answer)
+  pub samples : (c i : ℕ) → c < channelsIn (gives .answer) → i < 128 → getD (shows .output) (128 * c + i) 0 ≡ getD (gives .output) (128 * c + i) 0
+
 -- ---- the claim about previews
 pub record Previews : Type 0 where
   -- with previews strewn in at any places, accepted or refused, every other call's answer, player and output are those of the list without them
@@ -179,10 +189,19 @@ pub record Previews : Type 0 where
       → outcomeLonger p (preview out samples time rate factor) ≡ shownBy p (outcome (left p between) (block out samples time rate factor))
   pub foretoldInCents : (p : Player) (between : List LongerCall) → unlooked between ≡ [] → (out samples : List ℕ) (time rate : Float) (cents : ℤ)
       → outcomeLonger p (previewInCents out samples time rate cents) ≡ shownBy p (outcomeLonger (left p between) (inCents out samples time rate cents))
+  -- and that whatever the second output and the block's held before, if they are of one length
+  pub anyOutput : (p : Player) (between : List LongerCall) → unlooked between ≡ [] → (second out samples : List ℕ) → length second ≡ length out
+      → (time rate factor : Float)
+      → SameBlock (outcomeLonger p (preview second samples time rate factor)) (outcome (left p between) (block out samples time rate factor))
+  pub anyOutputInCents : (p : Player) (between : List LongerCall) → unlooked between ≡ [] → (second out samples : List ℕ) → length second ≡ length out
+      → (time rate : Float) (cents : ℤ)
+      → SameBlock (outcomeLonger p (previewInCents second samples time rate cents)) (outcomeLonger (left p between) (inCents out samples time rate cents))
   -- a refused preview leaves the second output as it was
-  pub unwritten : (p : Player) (out samples : List ℕ) (time rate factor : Float) (number : ℕ)
-      → previewed 128 p (length out) (length samples) time rate factor ≡ Refused number → outcomeLonger p (preview out samples time rate factor) .output ≡ out
-  pub unwrittenInCents : (p : Player) (out samples : List ℕ) (time rate : Float) (cents : ℤ) (number : ℕ)
-      → previewedCents 128 p (length out) (length samples) time rate cents ≡ Refused number → outcomeLonger p (previewInCents out samples time rate cents) .output ≡ out
+  pub unwritten : (p : Player) (second samples : List ℕ) (time rate factor : Float) (number : ℕ)
+      → previewed 128 p (length second) (length samples) time rate factor ≡ Refused number
+      → outcomeLonger p (preview second samples time rate factor) .output ≡ second
+  pub unwrittenInCents : (p : Player) (second samples : List ℕ) (time rate : Float) (cents : ℤ) (number : ℕ)
+      → previewedCents 128 p (length second) (length samples) time rate cents ≡ Refused number
+      → outcomeLonger p (previewInCents second samples time rate cents) .output ≡ second
   -- the list of demand 3 that a longer list is brought to (`replaced`, whose claims are those of `InCents`) is the one of the list without its previews
   pub replacedSame : (p : Player) (calls : List LongerCall) → replaced p calls ≡ replaced p (unlooked calls)

@@ -75,7 +75,7 @@ instances = (
     leftOut = refl;
     met = met (replaced (fresh rate) previewedCalls) 2 tt refl refl tt (lit≤ tt) (lit≤ tt) refl ((refl, refl, refl), ((refl, refl, refl), tt)) refl;
   },
-  record { between = refl; short = refl; far = refl },
+  record { between = refl; lengths = refl; short = refl; far = refl },
 )
 
 returns : tie.Need-returns
