@@ -19,6 +19,13 @@ pub extern "C" fn rounding_narrow(x: f64) -> u32
 }
 
 #[no_mangle]
+pub extern "C" fn rounding_fma_narrow(a: f64, b: f64, c: f64) -> u32
+    ensures { λ r. ⌜ r ≡ narrow (fma binary64 a b c) ⌝ }
+{
+    fused::fma_narrow(a, b, c)
+}
+
+#[no_mangle]
 pub extern "C" fn rounding_floor(x: f64) -> f64
     ensures { λ r. ⌜ r ≡ floor binary64 x ⌝ }
 {
