@@ -1,7 +1,8 @@
 /* The runs of `replay bench` (oracle/rust/replay/bench.rs), of ours, and memcpy as the limit: lines `name ns`.
    Blocks are called from Rattle (crates/player_c), as the Rust's from Rust, and once more through the C library: names with `-c`, and
    with `-cents` where the call is the one in cents: at 0 of them, and below at others. `-preview` are previews of the
-   players that stand before the first 256 blocks of a run, and `-shown` the block call on copies of them. */
+   players that stand before the first 256 blocks of a run, and `-shown` the block call on copies of them. `-ahead` is a preview
+   before each block of a run, and `-twin` what a block takes in its place: the block call of a second player beside the first. */
 #include <math.h>
 #include <netthimble.h>
 #include <stdio.h>
@@ -13,7 +14,7 @@ extern bool player_blocks(uint32_t *out, size_t out_len, const uint32_t *samples
 
 enum { BLOCKS = 4000, STATES = 256, MILLION = 1000000 };
 static const float RATE = 48000.0f;
-static uint32_t out[4096];
+static uint32_t out[4096], second[4096];
 
 static double now(void) {
     struct timespec t;
@@ -95,6 +96,28 @@ static void previewed(const char *name, netthimble_player p, const uint32_t *wor
     printf("%s-shown %.1f\n%s-preview %.1f\n", name, block, name, preview);
 }
 
+static double pairs_of(netthimble_player p, const uint32_t *words, size_t len, float rate, bool preview) {
+    netthimble_player twin = p;
+    double t = now();
+    for (size_t n = 0; n < BLOCKS; n++) {
+        double time = (double)(128 * n) / RATE;
+        if (preview) must(netthimble_player_preview(&p, second, 4096, words, len, time, rate, 1.0).refusal);
+        else must(netthimble_player_process(&twin, second, 4096, words, len, time, rate, 1.0).refusal);
+        must(netthimble_player_process(&p, out, 4096, words, len, time, rate, 1.0).refusal);
+    }
+    return (now() - t) / BLOCKS;
+}
+
+/* The same two calls in a run of blocks: a block counts half of two players' run, and a preview what it adds to one's. */
+static void ahead(const char *name, netthimble_player p, const uint32_t *words, size_t len, float rate) {
+    double twins = 1e300, with = 1e300;
+    for (int turn = 0; turn < 3; turn++) {
+        twins = fmin(twins, pairs_of(p, words, len, rate, false));
+        with = fmin(with, pairs_of(p, words, len, rate, true));
+    }
+    printf("%s-twin %.1f\n%s-ahead %.1f\n", name, twins / 2, name, with - twins / 2);
+}
+
 static double from_c(size_t channels, size_t frames, bool looped, float rate, const uint32_t *words, bool in_cents) {
     return blocks_of(begun(channels, frames, looped, words), words, channels * frames, rate, 0, in_cents);
 }
@@ -116,7 +139,10 @@ static void detuned(const char *name, bool silent, float rate, int32_t cents) {
         in_cents = fmin(in_cents, blocks_of(p, words, frames, rate, cents, true));
     }
     printf("%s-c %.1f\n%s-cents %.1f\n", name, c, name, in_cents);
-    if (silent && cents == 0) previewed("silent", p, words, frames, rate);
+    if (silent && cents == 0) {
+        previewed("silent", p, words, frames, rate);
+        ahead("silent", p, words, frames, rate);
+    }
     free(words);
 }
 
@@ -133,6 +159,7 @@ static void block(const char *name, size_t channels, bool looped, float rate, bo
     char label[64];
     snprintf(label, sizeof label, "%s-%zu", name, channels);
     previewed(label, begun(channels, frames, looped, words), words, channels * frames, rate);
+    ahead(label, begun(channels, frames, looped, words), words, channels * frames, rate);
     free(words);
 }
 

@@ -1,19 +1,22 @@
 -- On which side of a tie a sum lies, from its last 64 digits: the laws of `beside` and `near_tie` and of their parts, over whole numbers and patterns. Assumes nothing.
 use mathlib.Core.Path.{_≡_, refl, sym, ap, _∙_, subst}
+use mathlib.Core.Logic.{inl}
 use mathlib.Core.Bool.{Bool, true, false, cond, false≢true}
 use Prim.Native.Nat.{ℕ, zero, suc, _+_, _-_, _*_, _/_, _%_, _^_, _≤_, _<_, compare, Ordering·eq}
 use native.Mathlib.Nat.{mul-add-div-right, mul-add-mod-self-right, div-eq-of-lt, mod-eq-of-lt, mul-le-mul-right, lt-of-mul-lt-mul-right, mod-add-mod, div-add-mod', pow-succ'}
 use native.Mathlib.Omega.{arith}
-use lib.Dec.{leb}
+use lib.Dec.{leb, ltb, eqb}
 use lib.Pow.{pow-mono, pow-pos}
 use lib.Ieee.{binary64, nearest}
 use lib.Ieee.Nearest.{closest}
-use borrow.Author.Tests.{leb-true}
+use borrow.Author.Tests.{leb-true, lt-ltb, le-ltb}
 use Rattle.rounding.specs.Fields.{field, digits, place}
 use Rattle.rounding.specs.Laws.{Within}
+use Rattle.rounding.specs.Raise.{raise}
 use Rattle.fused.specs.Tied.{Beside, Reach, Sided, Tied, Total, LowTotal, twiceRounded}
 use Rattle.fused.proofs.Bounds.{closest-is}
 use Rattle.rounding.proofs.Closest.{compare-is, closest-near}
+use Rattle.rounding.proofs.Raised.{guard-clear, tie-raise, where-set}
 use Rattle.rounding.proofs.Read.{field-le}
 use Rattle.rounding.proofs.Sum.{Order, order, less, more, none}
 use Rattle.fused.proofs.Untied.{normal-digits, place-field, digits-are, place-is}
@@ -160,17 +163,20 @@ module _ (n j e : ℕ) (h : Beside n) (w : Within (128 * 2 ^ j) e (digits binary
         let a = lower-is in
         omega arith
 
--- ---- the code's numbers: half a unit, v, and what was joined on the way to it
-abbrev halfOf : ℕ → ℕ
-halfOf j = 1 * 2 ^ (j - 1) % 2 ^ 64
+-- ---- the code's numbers: a unit, half of it, v, and what was joined on the way to it
+abbrev unitOf : ℕ → ℕ
+unitOf j = 1 * 2 ^ j % 2 ^ 64
 
-pub half-is : (j : ℕ) → 1 ≤ j → j ≤ 50 → (2 ^ j ≡ 2 * halfOf j) × (2 ^ j ≤ 2 ^ 50) × (0 < halfOf j)
+abbrev halfOf : ℕ → ℕ
+halfOf j = unitOf j / 2
+
+pub half-is : (j : ℕ) → 1 ≤ j → j ≤ 50 → (2 ^ j ≡ 2 * halfOf j) × (2 ^ j ≤ 2 ^ 50) × (0 < halfOf j) × (unitOf j ≡ 2 ^ j)
 half-is j a b =
     let k : 2 ^ j ≡ 2 * 2 ^ (j - 1) = ap (λ (x : ℕ). 2 ^ x) (before j a) ∙ pow-succ' 2 (j - 1) in
     let m : 2 ^ j ≤ 2 ^ 50 = pow-mono {i = j} {j = 50} b in
     let z : 0 < 2 ^ (j - 1) = pow-pos (j - 1) in
-    let h : halfOf j ≡ 2 ^ (j - 1) = mod-eq-of-lt (omega arith) ∙ omega arith in
-    (omega arith, m, omega arith)
+    let h : unitOf j ≡ 2 ^ j = mod-eq-of-lt (omega arith) ∙ omega arith in
+    (omega arith, m, omega arith, h)
   where
     before : (j : ℕ) → 1 ≤ j → j ≡ suc (j - 1)
     before j h = omega arith
@@ -180,21 +186,51 @@ module _ (n j : ℕ) (p q : Bool) (m c w x v : ℕ) (h : Beside n) (some : 1 ≤
   low : (e : ℕ) → LowTotal p q m c e → (v + tieOf n * 2 ^ j) % 2 ^ 64 ≡ (e + halfOf j) % 2 ^ 64
   low e i = low-sum (halfOf j) (cond p m 0) (cond p 0 m) (cond q c 0) (cond q 0 c) v w x (tieOf n * 2 ^ j) e a b d i
 
-  pub sided-on : v ≤ 2 * halfOf j → Sided n j p q m c (n / 2 ^ 29 - 0x1_c000_0000 + (n / 2 ^ 29 - 0x1_c000_0000) % 2)
+  sided-on : v ≤ 2 * halfOf j → Sided n j p q m c (n / 2 ^ 29 - 0x1_c000_0000 + (n / 2 ^ 29 - 0x1_c000_0000) % 2)
   sided-on s e i near =
       let g = half-is j some few in
       let f : v < 2 ^ 63 = omega (arith, g .0, g .1) in
       on-tie n j e h near (halfOf j) v (g .0) (g .2) s (not-below v (tieOf n * 2 ^ j) e (halfOf j) (2 ^ j) (g .0) (g .1) short (sum-near-tie n j e h near) (low e i) f)
 
-  pub sided-above : 2 * halfOf j < v → v < 2 ^ 63 → Sided n j p q m c (n / 2 ^ 29 - 0x1_c000_0000 + 1)
+  sided-above : 2 * halfOf j < v → v < 2 ^ 63 → Sided n j p q m c (n / 2 ^ 29 - 0x1_c000_0000 + 1)
   sided-above s f e i near =
       let g = half-is j some few in
       above-tie n j e h near (halfOf j) v (g .0) (g .2) s (not-below v (tieOf n * 2 ^ j) e (halfOf j) (2 ^ j) (g .0) (g .1) short (sum-near-tie n j e h near) (low e i) f)
 
-  pub sided-below : 2 ^ 63 ≤ v → Sided n j p q m c (n / 2 ^ 29 - 0x1_c000_0000)
+  sided-below : 2 ^ 63 ≤ v → Sided n j p q m c (n / 2 ^ 29 - 0x1_c000_0000)
   sided-below f e i near =
       let g = half-is j some few in
       below-tie n j e h near (halfOf j) v (g .0) (g .2) (far-below v (tieOf n * 2 ^ j) e (halfOf j) (2 ^ j) (g .0) (g .1) short (sum-near-tie n j e h near) (low e i) f)
+
+  abbrev lower : ℕ
+  lower = n / 2 ^ 29 - 0x1_c000_0000
+
+  -- the sum, rounded to an f64: its guard is set where it is not below the tie, and its sticky digit where it is not on it
+  abbrev r : ℕ
+  r = raise (ltb v (2 ^ 63)) (ltb (unitOf j) v) (eqb (lower % 2) 1)
+
+  twice : unitOf j ≡ 2 * halfOf j
+  twice = let g = half-is j some few in g .3 ∙ g .0
+
+  pub sided : Sided n j p q m c (lower + r)
+  sided = go (order v (2 ^ 63)) (order (unitOf j) v)
+    where
+      on : v ≤ unitOf j → Sided n j p q m c (lower + r)
+      on l =
+          let g = half-is j some few in
+          rw (lt-ltb v (2 ^ 63) (omega (arith, g .1, g .3)))
+          (rw (le-ltb (unitOf j) v l) (subst (Sided n j p q m c) (tie-raise lower (lower % 2) refl (omega arith)) (sided-on (omega (arith, twice)))))
+
+      below : 2 ^ 63 ≤ v → Sided n j p q m c (lower + r)
+      below l = subst (λ (x : ℕ). Sided n j p q m c (lower + x)) (sym (guard-clear _ _ _ (le-ltb v (2 ^ 63) l))) (subst (Sided n j p q m c) (omega arith) (sided-below l))
+
+      go : Order v (2 ^ 63) → Order (unitOf j) v → Sided n j p q m c (lower + r)
+      go (less k) (less l) =
+          subst (λ (x : ℕ). Sided n j p q m c (lower + x)) (sym (where-set _ _ _ (lt-ltb v (2 ^ 63) k) (inl (lt-ltb (unitOf j) v l)))) (sided-above (omega (arith, twice)) k)
+      go (less k) (none l) = on (omega arith)
+      go (less k) (more l) = on (omega arith)
+      go (none k) o = below (omega arith)
+      go (more k) o = below (omega arith)
 
 -- ---- the three terms at a common place
 low-total : (p q : Bool) (m c e : ℕ) → Total p q m c e → LowTotal p q (m % 2 ^ 64) (c % 2 ^ 64) e

@@ -1,17 +1,19 @@
 -- A pattern apart from the ties (`Apart`), and the f32 pattern of every value near it. Assumes nothing.
 use mathlib.Core.Path.{_≡_, refl, ap, _∙_}
 use mathlib.Core.Logic.{inl, inr}
-use mathlib.Core.Bool.{false, cond}
+use mathlib.Core.Bool.{Bool, true, false, cond}
 use Prim.Native.Nat.{ℕ, _+_, _-_, _*_, _/_, _%_, _^_, _≤_, _<_, min}
 use native.Mathlib.Omega.{arith}
-use lib.Dec.{eqb}
+use lib.Dec.{eqb, ltb}
 use lib.Ieee.{binary64}
 use lib.Ieee.Nearest.{closest}
-use borrow.Author.Tests.{ne-eqb, eq-eqb, lt-leb}
+use borrow.Author.Tests.{ne-eqb, eq-eqb, lt-leb, lt-ltb, le-ltb}
 use Rattle.fused.specs.Apart.{Apart}
 use Rattle.rounding.specs.Fields.{field, digits, place, negative, Full}
 use Rattle.rounding.specs.Laws.{Within}
+use Rattle.rounding.specs.Raise.{raise}
 use Rattle.fused.proofs.Bounds.{closest-is}
+use Rattle.rounding.proofs.Raised.{guard-clear, where-set}
 use Rattle.rounding.proofs.Single.{pat, high}
 use Rattle.rounding.proofs.Sum.{Order, order, less, more, none}
 
@@ -65,6 +67,19 @@ module _ (b d k : ℕ) (g : Parts b d k) where
 
   pub below-ones : field binary64 b < 2047
   below-ones = omega arith
+
+-- no tie is at most 512 from b: x counts from 513 above a tie, and the guard is set up to half way to the next tie
+pub apart : (b x : ℕ) (l : Bool) → 898 * 2 ^ 52 ≤ b → b < 1150 * 2 ^ 52 → x ≡ (b + 0xfff_fdff) % 0x2000_0000 → x < 0x1fff_fbff
+    → Apart b (b / 0x2000_0000 + raise (ltb x 0xfff_fdff) true l - 0x1_c000_0000)
+apart b x l lo hi e far = go (order x 0xfff_fdff)
+  where
+    clear : 0xfff_fdff ≤ x → Apart b (b / 0x2000_0000 + raise (ltb x 0xfff_fdff) true l - 0x1_c000_0000)
+    clear h = let z = guard-clear (ltb x 0xfff_fdff) true l (le-ltb x 0xfff_fdff h) in record { least = lo; most = hi; above = omega arith; under = omega arith }
+
+    go : Order x 0xfff_fdff → Apart b (b / 0x2000_0000 + raise (ltb x 0xfff_fdff) true l - 0x1_c000_0000)
+    go (less h) = let z = where-set (ltb x 0xfff_fdff) true l (lt-ltb x 0xfff_fdff h) (inl refl) in record { least = lo; most = hi; above = omega arith; under = omega arith }
+    go (none h) = clear (omega arith)
+    go (more h) = clear (omega arith)
 
 module _ (b r : ℕ) (h : Apart b r) where
   -- the digits e at the place j, whose pattern is at most 512 from b

@@ -16,20 +16,22 @@ ghost use Rattle.fused.specs.Fused.{fma};
 ghost use Rattle.fused.specs.Tied.{Beside, Reach, Sided, Tied};
 use super::fused::fma;
 use rounding::narrow;
+use rounding::raise;
 
 // The f32 pattern of an f64's pattern, and 0 where it is not in the f32's normal range, is negative
-// or has a tie close to it. Half of the last digit that is kept is added, and 29 digits are dropped.
+// or has a tie close to it. 29 digits are dropped. `past` counts the patterns that are close to no
+// tie, from the first one above a tie. Up to half way to the next tie the guard digit is set, and
+// digits below it are too: with no tie close, the sticky digit is set wherever the guard is.
 fn untied(bits: u64) -> u64
     ensures { λ r. ⌜ (r ≡ 0) ⊎ Apart bits r ⌝ }
 {
     if bits >= 0x3820_0000_0000_0000 {
         if bits < 0x47e0_0000_0000_0000 {
-            let raised = bits + 0x1000_0000;
-            let dropped = raised % 0x2000_0000;
-            if dropped > 512 {
-                if dropped < 0x1fff_fe00 {
-                    return raised / 0x2000_0000 - 0x1_c000_0000;
-                }
+            let past = (bits + 0xfff_fdff) % 0x2000_0000;
+            if past < 0x1fff_fbff {
+                let kept = bits / 0x2000_0000;
+                let guard = past < 0xfff_fdff;
+                return kept + raise(guard, true, kept % 2 == 1) - 0x1_c000_0000;
             }
         }
     }
@@ -64,24 +66,22 @@ fn joined(v: u64, x: u64, taken: bool) -> u64
 }
 
 // The f32 pattern of the sum of m and c, of each of which only the last 64 digits are given. They
-// tell how far the sum is from the tie beside it, for it is near the pattern `size`: more than half
-// of the last digit of an f64 above it, or below it, or so close that an f64 lies on the tie.
+// tell how far the sum is from the tie beside it, for it is near the pattern `size`: `above` is that
+// distance and half of an f64's last digit. The sum as an f64 has its guard digit set where it is
+// not below the tie, and its sticky digit where it is not on it.
 fn beside(size: u64, j: u64, p: bool, q: bool, m: u64, c: u64) -> u64
     requires { ⌜ Beside size × (1 ≤ j) × (j ≤ 50) ⌝ }
     ensures { λ r. ⌜ Sided size j p q m c r ⌝ }
 {
-    let half = 1 << (j - 1);
+    let half = (1 << j) / 2;
     let tie = (full_digits(size) / 0x2000_0000 * 0x2000_0000 + 0x1000_0000) << j;
     let sum = joined(joined(half, m, p), c, q);
     let above = std::num::wrapping_sub_u64(sum, tie);
     let lower = size / 0x2000_0000 - 0x1_c000_0000;
-    if above <= 2 * half {
-        lower + lower % 2
-    } else if above < 0x8000_0000_0000_0000 {
-        lower + 1
-    } else {
-        lower
-    }
+    let last = lower % 2 == 1;
+    let sticky = above > (1 << j);
+    let guard = above < 0x8000_0000_0000_0000;
+    lower + raise(guard, sticky, last)
 }
 
 // Whether a pattern is in the f32's normal range, with a tie at most 512 from it.

@@ -1,5 +1,5 @@
 // Runs recorded vectors of `rounding` and `fused`: what a processor answered (tools/rounding_vectors makes them).
-// A line of standard input has 70 bytes: the operation, a digit; three operands and the answer, 16
+// A line of standard input has 70 bytes: the operation, a hex digit; three operands and the answer, 16
 // hex digits each; a space before each, and the line's end.
 ghost use Prim.Native.Nat.{_+_, _<_, _≤_};
 use libc::STDIN_FILENO;
@@ -60,6 +60,7 @@ fn computed(operation: usize, a: u64, b: u64, c: u64) -> u64 {
         6 => rounding::to_pattern_f64(rounding::widen((a % 0x1_0000_0000) as u32)),
         7 => rounding::near(x, y, z) as u64,
         8 => rounding::to_pattern_f64(rounding::rem_euclid(x, y)),
+        10 => fused::fma_narrow(x, y, z) as u64,
         _ => rounding::float_eq(single(a), single(b), single(c)) as u64,
     }
 }
@@ -114,6 +115,7 @@ fn report_all(runs: &[u64; 16], differ: &[u64; 16]) {
     report(b"near ", runs[7], differ[7]);
     report(b"rem_euclid ", runs[8], differ[8]);
     report(b"float_eq ", runs[9], differ[9]);
+    report(b"fma_narrow ", runs[10], differ[10]);
 }
 
 fn main() {
