@@ -20,8 +20,8 @@ use rounding::raise;
 
 // The f32 pattern of an f64's pattern, and 0 where it is not in the f32's normal range, is negative
 // or has a tie close to it. 29 digits are dropped. `past` counts the patterns that are close to no
-// tie, from the first one above a tie. Up to half way to the next tie the guard digit is set, and
-// digits below it are too: with no tie close, the sticky digit is set wherever the guard is.
+// tie, from the first one above a tie. Up to half way to the next tie the guard bit is set, and
+// digits below it are too: with no tie close, the sticky bit is set wherever the guard is.
 fn untied(bits: u64) -> u64
     ensures { λ r. ⌜ (r ≡ 0) ⊎ Apart bits r ⌝ }
 {
@@ -67,8 +67,8 @@ fn joined(v: u64, x: u64, taken: bool) -> u64
 
 // The f32 pattern of the sum of m and c, of each of which only the last 64 digits are given. They
 // tell how far the sum is from the tie beside it, for it is near the pattern `size`: `above` is that
-// distance and half of an f64's last digit. The sum as an f64 has its guard digit set where it is
-// not below the tie, and its sticky digit where it is not on it.
+// distance and half of an f64's last digit. The sum as an f64 has its guard bit set where it is not
+// below the tie, and its sticky bit where it is not on it.
 fn beside(size: u64, j: u64, p: bool, q: bool, m: u64, c: u64) -> u64
     requires { ⌜ Beside size × (1 ≤ j) × (j ≤ 50) ⌝ }
     ensures { λ r. ⌜ Sided size j p q m c r ⌝ }

@@ -2,28 +2,28 @@
 use mathlib.Core.Path.{_≡_}
 use mathlib.Core.Logic.{_⊎_}
 use mathlib.Core.Bool.{Bool, true, false, not, _&&_, _||_, cond}
-use Prim.Native.Nat.{ℕ, zero, suc, _+_, _*_, _/_, _%_, _^_, _≤_}
+use Prim.Native.Nat.{ℕ, zero, suc, _+_, _*_, _/_, _%_, _^_}
 use lib.Dec.{eqb}
 use lib.Ieee.Nearest.{closest}
 use Rattle.rounding.specs.Laws.{Within}
 
--- 1 exactly where the guard digit is set and the sticky or the last digit is too, and 0 otherwise
+-- 1 exactly where the guard bit is set and the sticky or the last bit is too, and 0 otherwise
 unfoldable pub raise : Bool → Bool → Bool → ℕ
 raise guard sticky last = cond (guard && (sticky || last)) 1 0
 
--- ---- n without its last e digits: what is kept, and whether the last digit of it is set
+-- ---- n without its last e digits: what is kept, and whether the last bit of it is set
 abbrev pub kept : ℕ → ℕ → ℕ
 kept n e = n / 2 ^ e
 
 abbrev pub last : ℕ → ℕ → Bool
 last n e = eqb (kept n e % 2) 1
 
--- whether the highest of the dropped digits is set, the guard
+-- whether the highest of the dropped digits is set: the guard bit
 unfoldable pub guard : ℕ → ℕ → Bool
 guard n zero = false
 guard n (suc e) = eqb (n / 2 ^ e % 2) 1
 
--- whether a digit below the guard is set
+-- whether a digit below the guard is set: the sticky bit
 unfoldable pub sticky : ℕ → ℕ → Bool
 sticky n zero = false
 sticky n (suc e) = not (eqb (n % 2 ^ e) 0)
@@ -34,7 +34,7 @@ raised n e = kept n e + raise (guard n e) (sticky n e) (last n e)
 
 -- ---- the claims
 pub record Raises : Type 0 where
-  -- the raise is 1 where the guard is set and the sticky or the last digit is too, only there, and 0 elsewhere
+  -- the raise is 1 where the guard bit is set and the sticky or the last bit is too, only there, and 0 elsewhere
   pub where-set : (g s l : Bool) → g ≡ true → (s ≡ true) ⊎ (l ≡ true) → raise g s l ≡ 1
   pub only-there : (g s l : Bool) → raise g s l ≡ 1 → (g ≡ true) × ((s ≡ true) ⊎ (l ≡ true))
   pub elsewhere : (g s l : Bool) → (raise g s l ≡ 0) ⊎ (raise g s l ≡ 1)
