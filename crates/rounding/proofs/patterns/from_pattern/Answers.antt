@@ -1,0 +1,11 @@
+-- `rounding::patterns::from_pattern` meets its contract: the test on the pattern without its sign is the NaN test. Assumes nothing.
+use Rattle.std.proofs.Common.{sym, ◌∙◌}
+use lib.Ieee.{binary32}
+use Rattle.rounding.proofs.Read.{above_is_nan, not_above_no_nan, zero_by_zero}
+use Rattle.rounding.proofs.patterns.from_pattern.Goals as goal
+
+pub float_from_bits-result : goal.float_from_bits-result
+float_from_bits-result c = not_above_no_nan binary32 c.args.bits c.if-bits-gt2139095040.false
+
+pub returns-then-bits-gt2139095040 : goal.returns-then-bits-gt2139095040
+returns-then-bits-gt2139095040 c = zero_by_zero binary32 ∙ sym (above_is_nan binary32 c.args.bits c.if-bits-gt2139095040.true)

@@ -1,0 +1,34 @@
+-- `rounding::to_whole::lifted` meets its contract: one more than what is cut where a remainder is left. Assumes nothing.
+use Rattle.std.proofs.Common.{ℕ, ◌+◌, ◌/◌, ◌%◌, ◌^◌, sym, ap, ◌∙◌, le_trans, le_of_eq, lt_of_lt_of_le, mod-eq_of_lt, zero-add, div-mul-le_self, arith, pow_pos, pow_mono}
+use native.Mathlib.Nat.{div-eq_of_lt}
+use lib.Pow.{shr_le}
+use Rattle.rounding.specs.Sticky.{some}
+use Rattle.rounding.proofs.Sticky.{returned, rest}
+use Rattle.rounding.proofs.Wholes.{lifted_some}
+use Rattle.rounding.proofs.to_whole.lifted.Goals as goal
+
+pub overflow_sub-d : goal.overflow_sub-d
+overflow_sub-d c =
+    let t = 2 ^ c.args.s in
+    le_trans (le_of_eq (returned c.args.d t c.ranges.d.fits)) (div-mul-le_self c.args.d t)
+
+pub overflow_add-result : goal.overflow_add-result
+overflow_add-result c =
+    let l = shr_le c.args.d c.args.s in
+    let e = c.some.ensures in
+    let p = c.requires in
+    record { fits = omega arith }
+
+pub returns-then-s-lt64 : goal.returns-then-s-lt64
+returns-then-s-lt64 c =
+    let d = c.args.d in
+    let t = 2 ^ c.args.s in
+    ap (λ (x : ℕ). d / t + x) (c.some.ensures ∙ ap some (rest d t c.ranges.d.fits)) ∙ sym (lifted_some d t (pow_pos c.args.s))
+
+pub returns-else-s-lt64 : goal.returns-else-s-lt64
+returns-else-s-lt64 c =
+    let d = c.args.d in
+    let t = 2 ^ c.args.s in
+    let l = lt_of_lt_of_le c.ranges.d.fits (pow_mono c.if-s-lt64.false) in
+    c.some-else-s-lt64.ensures
+    ∙ sym (lifted_some d t (pow_pos c.args.s) ∙ ap (λ (x : ℕ). x + some (d % t)) (div-eq_of_lt l) ∙ ap (λ (x : ℕ). 0 + some x) (mod-eq_of_lt l) ∙ zero-add (some d))
