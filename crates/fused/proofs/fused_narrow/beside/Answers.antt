@@ -1,0 +1,17 @@
+-- `fused::fused_narrow::beside` meets its contract. Assumes nothing.
+use Rattle.std.proofs.Common.{◌≡◌, ℕ, ◌+◌, ◌-◌, ◌*◌, ◌/◌, ◌%◌, ◌^◌, sym, subst, le_trans, le_of_eq, arith, rules}
+use Rattle.rounding.proofs.Raised.{raise_le}
+use Rattle.fused.specs.Tied.{Sided}
+use Rattle.fused.proofs.Side.{sided}
+use Rattle.fused.proofs.fused_narrow.beside.Goals as goal
+
+pub overflow_add-result : goal.overflow_add-result
+overflow_add-result c = let l = le_trans (le_of_eq c.raise.ensures) (raise_le _ _ _) in record { fits = omega arith }
+
+pub returns : goal.returns
+returns c =
+    let a = c.args in
+    subst (λ (x : ℕ). Sided a.size a.j a.p a.q a.m a.c (a.size / 2 ^ 29 - 0x1_c000_0000 + x)) (sym c.raise.ensures)
+    (sided a.size a.j a.p a.q a.m a.c c.joined.result c.joined-sum.result c.wrapping_sub_u64-above.result c.requires.0 c.requires.1 c.requires.2 (search rules)
+    c.joined.ensures c.joined-sum.ensures
+    (subst (λ (d : ℕ). (c.wrapping_sub_u64-above.result + (d / 2 ^ 29 * 2 ^ 29 + 2 ^ 28) * 2 ^ a.j % 2 ^ 64) % 2 ^ 64 ≡ c.joined-sum.result) c.full_digits.ensures c.wrapping_sub_u64-above.ensures.value))
