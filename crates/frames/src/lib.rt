@@ -1,4 +1,6 @@
 // Reading and storing the frames of a channel, each an f32's bit pattern.
+#![tactic(auto)]
+
 ghost use Rattle.std.specs.Prelude.{◌≡◌, min, length, get_or};
 ghost use Rattle.lists.specs.Table.{table, over};
 

@@ -1,0 +1,12 @@
+-- `frames::fill_zeros` meets its contract. The invariant: the first i elements are zero. Assumes nothing.
+use mathlib.Core.Path.{◌≡◌}
+use Prim.Native.Nat.{◌-◌, ◌≤◌}
+use lib.ListN.{length}
+use Rattle.lists.specs.Table.{filled}
+use Rattle.frames.proofs.fill_zeros.Given as goal
+
+abbrev pub invariant-loop-i : goal.invariant-loop-i
+invariant-loop-i l = (l.i ≤ length l.initial.part) × (length l.part ≡ length l.initial.part) × (l.part ≡ filled l.i (λ k. 0) l.initial.part)
+
+abbrev pub decreases-loop-i : goal.decreases-loop-i
+decreases-loop-i l = length l.initial.part - l.i
