@@ -10,8 +10,8 @@ span i = omega arith
 
 pub returns-in-Never : goal.returns-in-Never
 unfolding aligned_position
-returns-in-Never c = rw c.block_seconds.ensures (sym (ap (aligned_position 128 _ _ _) c.enum_told-1.given.1))
+returns-in-Never c = rw c.block_seconds.ensures (sym (ap (aligned_position 128 _ _ _) c.in-Never.is))
 
 pub returns-in-At : goal.returns-in-At
 unfolding aligned_position
-returns-in-At c = simp (c.whole.ensures, c.smaller.ensures, c.widened.ensures, span) (sym (ap (aligned_position 128 _ _ _) c.wrap-1.given.1))
+returns-in-At c = simp (c.whole.ensures, c.smaller.ensures, c.widened.ensures, span) (sym (ap (aligned_position 128 _ _ _) c.in-At.is))
