@@ -4,7 +4,7 @@ mod samples;
 pub use samples::write_channel;
 
 // The samples between which a sample lies.
-#[derive(Drop)]
+#[derive(Clone, Copy)]
 pub struct Neighbours {
     pub prev_sample: f64,
     pub next_sample: f64,

@@ -16,7 +16,7 @@ use seconds::{BufferSeconds, ContextSeconds};
 
 // The player that a message or a buffer call leaves, and the number of its refusal, 0 for none.
 #[repr(C)]
-#[derive(Drop)]
+#[derive(Clone, Copy)]
 pub struct Told {
     pub player: Player,
     pub refusal: u32,
@@ -24,7 +24,7 @@ pub struct Told {
 
 // What a block answers: keep-alive, ended, the answered channels and the position; or the number of its refusal beside zeros.
 #[repr(C)]
-#[derive(Drop)]
+#[derive(Clone, Copy)]
 pub struct BlockAnswer {
     pub position: BufferSeconds,
     pub channels: usize,
@@ -34,7 +34,7 @@ pub struct BlockAnswer {
 }
 
 // The player that a block leaves, and its answer.
-#[derive(Drop)]
+#[derive(Clone, Copy)]
 pub struct Blocked {
     pub player: Player,
     pub answer: BlockAnswer,
@@ -42,7 +42,7 @@ pub struct Blocked {
 
 // The factor of whole cents; or the number of their refusal beside zero.
 #[repr(C)]
-#[derive(Drop)]
+#[derive(Clone, Copy)]
 pub struct Factored {
     pub factor: f64,
     pub refusal: u32,

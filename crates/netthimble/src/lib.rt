@@ -12,7 +12,7 @@ pub use playing::{
 
 // The shape of a clip or of a buffer that is made.
 #[repr(C)]
-#[derive(Drop)]
+#[derive(Clone, Copy)]
 pub struct Shaped {
     pub shape: Shape,
     pub refusal: u32,
@@ -20,7 +20,7 @@ pub struct Shaped {
 
 // The shapes of the parts of a buffer.
 #[repr(C)]
-#[derive(Drop)]
+#[derive(Clone, Copy)]
 pub struct Parts {
     pub first: Shape,
     pub rest: Shape,
@@ -29,7 +29,7 @@ pub struct Parts {
 
 // The count of frames that a copy moved.
 #[repr(C)]
-#[derive(Drop)]
+#[derive(Clone, Copy)]
 pub struct Copy {
     pub count: usize,
     pub refusal: u32,

@@ -12,7 +12,7 @@ use buffer::Shape;
 use seconds::{BufferSeconds, ContextSeconds};
 
 #[repr(C)]
-#[derive(Drop)]
+#[derive(Clone, Copy)]
 pub struct LoopState {
     pub is_looping: bool,
     pub start: BufferSeconds,
@@ -21,7 +21,7 @@ pub struct LoopState {
 
 // What a block moves on, beside the start time and the offset.
 #[repr(C)]
-#[derive(Drop)]
+#[derive(Clone, Copy)]
 pub struct RenderState {
     pub buffer_time: BufferSeconds,
     pub started: bool,
@@ -32,7 +32,7 @@ pub struct RenderState {
 }
 
 #[repr(C)]
-#[derive(Drop)]
+#[derive(Clone, Copy)]
 pub struct Player {
     pub sample_rate: f32,
     pub start_time: ContextSeconds,
@@ -48,7 +48,7 @@ pub struct Player {
     pub block_time: ContextSeconds,
 }
 
-#[derive(Drop)]
+#[derive(Clone, Copy)]
 pub enum ControlMessage {
     Start(f64, f64, f64),
     Stop(f64),
@@ -58,14 +58,14 @@ pub enum ControlMessage {
 }
 
 // The player that a call leaves, or the number of its refusal.
-#[derive(Drop)]
+#[derive(Clone, Copy)]
 pub enum Handled {
     Done(Player),
     Refused(u32),
 }
 
 // What a block answers.
-#[derive(Drop)]
+#[derive(Clone, Copy)]
 pub struct BlockReport {
     pub player: Player,
     pub keep_alive: bool,
@@ -74,7 +74,7 @@ pub struct BlockReport {
     pub position: BufferSeconds,
 }
 
-#[derive(Drop)]
+#[derive(Clone, Copy)]
 pub enum Rendered {
     Block(BlockReport),
     Refused(u32),

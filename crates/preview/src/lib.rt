@@ -10,7 +10,7 @@ use player::{Player, Rendered};
 use seconds::BufferSeconds;
 
 // Of the coming block, what it would answer, but for the player that it would leave.
-#[derive(Drop)]
+#[derive(Clone, Copy)]
 pub struct Coming {
     pub keep_alive: bool,
     pub ended: bool,
@@ -18,7 +18,7 @@ pub struct Coming {
     pub position: BufferSeconds,
 }
 
-#[derive(Drop)]
+#[derive(Clone, Copy)]
 pub enum Previewed {
     Block(Coming),
     Refused(u32),

@@ -7,7 +7,7 @@ pub use filling::fill_infos;
 use seconds::{BufferSeconds, ContextSeconds, FrameNumber};
 
 // What stays the same over the samples of a sub-sample block.
-#[derive(Drop)]
+#[derive(Clone, Copy)]
 pub struct Settings {
     pub block_time: ContextSeconds,
     pub dt: f64,
@@ -25,7 +25,7 @@ pub struct Settings {
 }
 
 // What a sample of a sub-sample block hands on to the next.
-#[derive(Drop)]
+#[derive(Clone, Copy)]
 pub struct Playhead {
     pub start_time: ContextSeconds,
     pub offset: BufferSeconds,
@@ -36,7 +36,7 @@ pub struct Playhead {
 }
 
 // The frame that a sample plays and the fraction of the way to the next one, if it plays any.
-#[derive(Drop)]
+#[derive(Clone, Copy)]
 pub struct PlaybackInfo {
     pub present: bool,
     pub prev_frame_index: FrameNumber,
@@ -59,7 +59,7 @@ pub struct Filled {
 }
 
 // What a sample of a sub-sample block plays, and the playhead after it.
-#[derive(Drop)]
+#[derive(Clone, Copy)]
 pub struct SampleStep {
     pub info: PlaybackInfo,
     pub head: Playhead,
