@@ -8,9 +8,7 @@ use Rattle.sub_sample.specs.declared.Playhead.{Playhead}
 use Rattle.sub_sample.specs.SubSample.{head_of, start_offset, begun}
 use Rattle.lists.specs.Cases.{taken}
 use mathlib.Core.Path.{refl}
-use borrow.Author.Rules.{rules}
-use Rattle.sub_sample.proofs.stepping.begun.Statement.{statement}
-use Rattle.sub_sample.proofs.stepping.begun.Tie as tie
+use Rattle.sub_sample.proofs.stepping.begun.Goals as goal
 
 -- the first sample
 first : (s : Settings) (time : Float) (h : Playhead) → h.started ≡ false
@@ -20,18 +18,9 @@ first : (s : Settings) (time : Float) (h : Playhead) → h.started ≡ false
 unfolding begun
 first s time h new = rw new
 
-returns : tie.Need-returns
+pub returns-then-h : goal.returns-then-h
 unfolding begun
-returns c = taken _ _ _ c.if1.true refl
+returns-then-h c = taken _ _ _ c.if-h.true refl
 
-start-offset-requires : tie.Need-start-offset-requires
-start-offset-requires c κs = search rules
-
-magnitude-requires : tie.Need-magnitude-requires
-magnitude-requires c κs = search rules
-
-returns-2 : tie.Need-returns-2
-returns-2 c = simp (c.before.before.start-offset.ensures, c.before.magnitude.ensures) (sym (first _ _ _ c.before.before.before.before.before.before.if1.false))
-
-pub begun-spec : {M : Type 1} → statement M
-begun-spec = tie.close (tie.spec returns start-offset-requires magnitude-requires returns-2)
+pub returns : goal.returns
+returns c = simp (c.start_offset-offset.ensures, c.magnitude.ensures) (sym (first _ _ _ c.if-h.false))
