@@ -1,5 +1,5 @@
 -- Digits, one at a time. Assumes nothing.
-use mathlib.Core.Path.{◌≡◌, refl, ap, sym, ◌∙◌}
+use mathlib.Core.Path.{◌≡◌, refl, ap, ◌∙◌}
 use mathlib.Core.Bool.{Bool, true, false, ◌&&◌, cond}
 use mathlib.Core.List.{List, [], ◌∷◌, ◌++◌}
 use Prim.Native.Nat.{ℕ, zero, suc, ◌+◌, ◌-◌, ◌*◌, ◌/◌, ◌%◌, ◌^◌, ◌≤◌, ◌<◌}
@@ -7,12 +7,11 @@ use native.Mathlib.Nat.{not-suc-le-zero, add-zero}
 use native.Mathlib.Numerals.{add-one}
 use native.Mathlib.Omega.{arith}
 use borrow.Author.Tests.{lt-ltb, le-ltb, leb-true, eq-eqb, ne_eqb}
-use lib.Dec.{leb, ltb, eqb}
+use lib.Dec.{leb, ltb}
 use lib.Pow.{pow-add, pow_mono}
 use lib.ListN.{length, get_or, set, drop, length-append}
 use lib.Seq.{sets, get_or-drop, drop-drop}
 use Rattle.commands.specs.Digits.{digit, hex, decimal_of, digit_value, hex_from}
-use Rattle.commands.specs.declared.Number.{Number}
 use Rattle.commands.specs.declared.Number.TheVariants.{Value, Nothing}
 
 pub length_hex : (n v : ℕ) → length (hex n v) ≡ n

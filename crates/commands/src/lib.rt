@@ -1,4 +1,6 @@
 // A line of the input of `trial` as a command.
+#![tactic(auto)]
+
 ghost use Rattle.std.specs.Prelude.{◌≡◌, ◌+◌, ◌≤◌, length};
 ghost use Rattle.commands.specs.Digits.{digit_value, hex_at};
 ghost use Rattle.commands.specs.Commands.{block_command, loop_command, time_of, time_command, start_command, command};

@@ -1,4 +1,6 @@
 // Seconds and frame numbers, and the instants of a block of 128 samples. Rates are those of the output.
+#![tactic(auto)]
+
 ghost use Rattle.std.specs.Prelude.{◌≡◌};
 ghost use Rattle.seconds.specs.Seconds.{dt, block_seconds, block_end};
 
