@@ -9,9 +9,7 @@ use Rattle.sub_sample.specs.declared.Settings.{Settings}
 use Rattle.sub_sample.specs.declared.PlaybackInfo.{PlaybackInfo}
 use Rattle.interpolated.specs.Interpolated.{following, between, sample_of}
 use Rattle.lists.specs.Cases.{left}
-use borrow.Author.Rules.{rules}
-use Rattle.interpolated.proofs.samples.sample_of.Statement.{statement}
-use Rattle.interpolated.proofs.samples.sample_of.Tie as tie
+use Rattle.interpolated.proofs.samples.sample_of.Goals as goal
 
 plays : (s : Settings) (channel : List ℕ) (info : PlaybackInfo) → info.present ≡ true
     → let frame = info.prev_frame_index.0 in
@@ -19,21 +17,11 @@ plays : (s : Settings) (channel : List ℕ) (info : PlaybackInfo) → info.prese
 unfolding sample_of
 plays s channel info h = rw h
 
-neighbours-requires : tie.Need-neighbours-requires
-neighbours-requires c κs = search rules
-
-fma-narrow-requires : tie.Need-fma-narrow-requires
-fma-narrow-requires c κs = search rules
-
-returns : tie.Need-returns
+pub returns-then-info : goal.returns-then-info
 unfolding between
-returns c =
-    let n = c.before.before in
-    rw (c.fma-narrow.ensures, n.neighbours.ensures.0, n.neighbours.ensures.1) (sym (plays _ _ _ n.before.if1.true))
+returns-then-info c =
+    rw (c.fma_narrow.ensures, c.neighbours-at.ensures.0, c.neighbours-at.ensures.1) (sym (plays _ _ _ c.if-info.true))
 
-returns-2 : tie.Need-returns-2
+pub returns : goal.returns
 unfolding sample_of
-returns-2 c = left _ _ _ c.if1.false refl
-
-pub sample-of-spec : {M : Type 1} → statement M
-sample-of-spec = tie.close (tie.spec neighbours-requires fma-narrow-requires returns returns-2)
+returns c = left _ _ _ c.if-info.false refl
