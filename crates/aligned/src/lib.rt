@@ -1,5 +1,7 @@
 // The aligned block of one channel: which frame each sample plays, its part of the output, and the
 // position after the block.
+#![tactic(auto)]
+
 ghost use Rattle.std.specs.Prelude.{◌≡◌, true, false, cond, leb, ◌+◌, ◌≤◌, length, get_or};
 ghost use Rattle.lists.specs.Table.{table};
 ghost use Rattle.aligned.specs.Aligned.{first_frame, ends_within, played, aligned_sample, last_wrap, aligned_position};

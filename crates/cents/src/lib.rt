@@ -1,5 +1,7 @@
 // The block call in cents: the block call with the factor of the cents, or the refusal that comes
 // first.
+#![tactic(auto)]
+
 ghost use Rattle.std.specs.Prelude.{◌≡◌, length};
 ghost use Rattle.cents.specs.Cents.{rendered_cents, output_cents, factored_at};
 

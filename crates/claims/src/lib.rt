@@ -1,5 +1,7 @@
 // What stands above the calls: statements about their definitions, each pinned to a function with
 // an empty body, so that the check names it.
+#![tactic(auto)]
+
 ghost use Rattle.claims.specs.Instances.{Instances};
 ghost use Rattle.claims.specs.Known.{KnownFrames};
 ghost use Rattle.claims.specs.LongRun.{LongRun};

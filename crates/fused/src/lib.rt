@@ -1,5 +1,7 @@
 // a times b plus c, rounded once, and the same narrowed to `f32`. Each contract equates the result
 // with the definition of `specs/Fused.antt`, narrowed as `rounding` defines it.
+#![tactic(auto)]
+
 mod fused;
 mod fused_narrow;
 mod known;

@@ -1,4 +1,6 @@
 // A sub-sample block's samples: their bits from a channel's frames, by what each sample plays.
+#![tactic(auto)]
+
 mod samples;
 
 pub use samples::write_channel;

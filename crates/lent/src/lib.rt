@@ -1,6 +1,8 @@
 // What the library for C is made of, below its exported functions: the player's calls by value, a
 // message on the lent player, the factor of cents, and the player that a refused rate is answered
 // with.
+#![tactic(auto)]
+
 ghost use Rattle.std.specs.Prelude.{◌≡◌, length};
 ghost use Rattle.player.specs.Messages.{handled, buffered};
 ghost use Rattle.player.specs.Block.{rendered, output};

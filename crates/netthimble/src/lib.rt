@@ -1,6 +1,8 @@
 // The library for C (include/netthimble.h): calls of `player`, `clip` and `buffer`. An answer holds
 // the number of its refusal, 0 for none; a refused call leaves the player and all lent memory as
 // they were.
+#![tactic(auto)]
+
 mod buffers;
 mod clips;
 mod playing;

@@ -1,5 +1,7 @@
 // The library for C (include/netthimble.h): the preview of the coming block. It is compiled by itself, so
 // that the player's code stands within this call as it does within `netthimble_player_process`.
+#![tactic(auto)]
+
 ghost use Rattle.std.specs.Prelude.{◌≡◌, length};
 ghost use Rattle.player.specs.Block.{rendered, output};
 ghost use Rattle.lent.specs.Lent.{after_block};

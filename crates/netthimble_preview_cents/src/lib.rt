@@ -1,6 +1,8 @@
 // The library for C (include/netthimble.h): the preview of the coming block in cents. It is compiled by
 // itself, so that the player's code stands within this call as it does within
 // `netthimble_player_process_cents`.
+#![tactic(auto)]
+
 ghost use Rattle.std.specs.Prelude.{◌≡◌, length};
 ghost use Rattle.cents.specs.Cents.{rendered_cents, output_cents};
 ghost use Rattle.lent.specs.Lent.{after_block};

@@ -1,5 +1,7 @@
 // The player: its record, its control messages and its blocks, after the renderer of the Rust's
 // audio_buffer_source.rs.
+#![tactic(auto)]
+
 
 mod alignment;
 mod beginning;

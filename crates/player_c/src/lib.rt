@@ -1,4 +1,6 @@
 // The player's blocks for C, to be measured beside the Rust's (tools/bench).
+#![tactic(auto)]
+
 ghost use Rattle.std.specs.Prelude.{◌≡◌, length};
 ghost use Rattle.seconds.specs.Seconds.{one};
 ghost use Rattle.player.specs.Block.{rendered, output};

@@ -1,5 +1,7 @@
 // The preview of the coming block: what the block call would give on a copy of the player. It answers
 // no player, so that nothing of it can stand in for the one that was looked at.
+#![tactic(auto)]
+
 ghost use Rattle.std.specs.Prelude.{◌≡◌, length};
 ghost use Rattle.player.specs.Block.{output};
 ghost use Rattle.cents.specs.Cents.{output_cents};

@@ -8,7 +8,7 @@ use lib.Arith.{mod-mul}
 use lib.Ieee.{nearest}
 use lib.Ieee.Nearest.{closest}
 use Rattle.rounding.specs.Laws.{Within}
-use Rattle.rounding.specs.Raise.{raise, raised, kept, guard, sticky, last, Raises}
+use Rattle.rounding.specs.Raise.{raise, raised, guard, sticky, Raises}
 use Rattle.rounding.proofs.Closest.{Says, says, compare_is, closest_one, closest_near}
 use Rattle.rounding.proofs.Sticky.{no_two}
 

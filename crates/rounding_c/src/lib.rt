@@ -1,4 +1,6 @@
 // The functions of `rounding` and `fused` for C, to be measured beside C's own (tools/bench_rounding).
+#![tactic(auto)]
+
 ghost use Rattle.std.specs.Prelude.{◌≡◌};
 ghost use Rattle.std.specs.Float.{binary64};
 ghost use Rattle.fused.specs.Fused.{fma};

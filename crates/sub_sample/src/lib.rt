@@ -1,5 +1,7 @@
 // The sub-sample block before any frame is read: where the playhead stands for each sample, and which
 // frame the sample plays.
+#![tactic(auto)]
+
 mod filling;
 mod stepping;
 
