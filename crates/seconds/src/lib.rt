@@ -6,16 +6,16 @@ ghost use Rattle.seconds.specs.Seconds.{dt, block_seconds, block_end};
 
 // Seconds of the context's clock.
 #[repr(C)]
-#[derive(Drop)]
+#[derive(Clone, Copy)]
 pub struct ContextSeconds(pub f64);
 
 // Seconds within the clip.
 #[repr(C)]
-#[derive(Drop)]
+#[derive(Clone, Copy)]
 pub struct BufferSeconds(pub f64);
 
 // A frame of the clip, counted from 0.
-#[derive(Drop)]
+#[derive(Clone, Copy)]
 pub struct FrameNumber(pub usize);
 
 // The largest f64: a start or a stop that was not received, and no duration.
