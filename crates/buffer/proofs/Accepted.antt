@@ -1,5 +1,5 @@
 -- What is known where a copy is accepted. Assumes nothing.
-use Rattle.std.proofs.Common.{◌≡◌, ℕ, ◌+◌, ◌-◌, ◌*◌, ◌<◌, ◌≤◌, min, Bool, true, false, refl, mul_comm, mul-le-mul, arith, ltb-true}
+use Rattle.std.proofs.Common.{◌≡◌, ℕ, ◌+◌, ◌-◌, ◌*◌, ◌<◌, ◌≤◌, min, Bool, true, false, refl, mul-le-mul, arith, ltb-true}
 use borrow.Author.Tests.{not-false}
 use Rattle.lists.specs.Rows.{row_fits}
 use Rattle.buffer.specs.Limits.{valid}

@@ -1,5 +1,5 @@
 -- What a copy leaves in the lent slices. `from` is the offset, or the channel's end where the offset is past it. Assumes nothing.
-use Rattle.std.proofs.Common.{◌≡◌, ℕ, ◌+◌, ◌-◌, ◌<◌, ◌≤◌, min, Bool, true, false, not, T, leb, List, [], ◌++◌, length, take, drop, sym, refl, ap, ◌∙◌, arith, leb→le, length-drop, length-take-le}
+use Rattle.std.proofs.Common.{◌≡◌, ℕ, ◌+◌, ◌-◌, ◌<◌, ◌≤◌, min, Bool, true, false, not, T, leb, List, ◌++◌, length, take, drop, sym, ap, ◌∙◌, arith, leb→le, length-drop, length-take-le}
 use lib.Dec.{nleb→lt}
 use Rattle.lists.specs.Parts.{put, put_none, drop_min, span, length_part}
 

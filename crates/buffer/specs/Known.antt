@@ -1,5 +1,5 @@
 -- Document 01, 'Known frames': the starred one about copies, as one claim about the definitions.
-use Rattle.std.specs.Prelude.{◌≡◌, ℕ, List, [], ◌∷◌}
+use Rattle.std.specs.Prelude.{◌≡◌, ℕ, [], ◌∷◌}
 use Rattle.buffer.specs.Answers.{accepted}
 use Rattle.buffer.specs.Channels.{channel}
 use Rattle.buffer.specs.Copies.{copied, copied_out}

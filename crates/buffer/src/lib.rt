@@ -1,6 +1,8 @@
 // Buffers: limits, shapes and copies. A buffer's channels lie one after another in one lent slice of
 // f32 bit patterns. Each public call answers for every input: with its result, or with the number of
 // the refusal in document 01's table, and all lent memory unchanged.
+#![tactic(auto)]
+
 mod copies;
 mod known;
 mod limits;
@@ -14,7 +16,7 @@ pub use limits::{MAX_CHANNELS, MAX_FRAMES, duration, is_valid_sample_rate, is_va
 
 // The channels of a buffer, the frames in each of them, and the sample rate.
 #[repr(C)]
-#[derive(Drop)]
+#[derive(Clone, Copy)]
 pub struct Shape {
     pub channels: usize,
     pub frames: usize,

@@ -3,12 +3,8 @@ use Rattle.std.proofs.Common.{refl}
 use Rattle.buffer.specs.Known.{KnownBuffer}
 use Rattle.buffer.specs.Limits.{valid_shape}
 use Rattle.buffer.specs.Copies.{copied}
-use Rattle.buffer.proofs.known.known_buffer.Statement.{statement}
-use Rattle.buffer.proofs.known.known_buffer.Tie as tie
+use Rattle.buffer.proofs.known.known_buffer.Goals as goal
 
-returns : tie.Need-returns
+pub returns : goal.returns
 unfolding KnownBuffer valid_shape copied
 returns c = (refl, λ a b c d x y z. refl, refl, λ a b c d x y z. refl)
-
-pub known-buffer-spec : {M : Type 1} → statement M
-known-buffer-spec = tie.close (tie.spec returns)
