@@ -2,13 +2,12 @@
 use mathlib.Core.Path.{◌≡◌, refl}
 use mathlib.Core.Bool.{Bool, true, false, not, cond}
 use mathlib.Core.List.{List}
-use Prim.Native.Nat.{ℕ, ◌+◌, ◌*◌, ◌≤◌, ◌<◌}
+use Prim.Native.Nat.{ℕ, ◌*◌, ◌≤◌}
 use native.Mathlib.Nat.{mul-le-mul}
 use native.Mathlib.Omega.{arith}
 use Rattle.buffer.specs.Limits.{valid_shape, valid_rate, valid}
 use Rattle.clip.specs.Reading.{channels_field, frames_field, is_layout, header_of, clip_read}
 use Rattle.clip.specs.declared.ClipHeader.{ClipHeader}
-use Rattle.clip.specs.declared.ClipRead.{ClipRead}
 use Rattle.clip.specs.declared.ClipRead.TheVariants.{Clip, Refused}
 
 -- a header comes out only where no check refuses

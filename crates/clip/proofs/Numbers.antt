@@ -5,7 +5,7 @@ use Prim.Native.Nat.{ℕ, zero, suc, ◌+◌, ◌*◌, ◌/◌, ◌%◌, ◌^◌
 use native.Mathlib.Nat.{pow-suc, mul-le-mul, le_of_suc-le-suc, not-suc-le-zero, add-zero, mod-add-div}
 use native.Mathlib.Omega.{arith}
 use lib.Dec.{lit<}
-use lib.ListN.{length, get_or, drop, length-drop}
+use lib.ListN.{length, get_or, drop}
 use lib.Seq.{get_or-drop, drop-drop, drop-append-add}
 use Rattle.clip.specs.Layout.{bytes}
 use Rattle.clip.specs.Reading.{number}

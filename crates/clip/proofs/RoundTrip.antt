@@ -1,17 +1,17 @@
 -- The reader accepts exactly the bytes of the layout, and reads what they were made of. Assumes nothing.
 use mathlib.Core.Path.{◌≡◌, refl, ap, sym, ◌∙◌}
 use mathlib.Core.Bool.{Bool, true, false, not}
-use mathlib.Core.List.{List, [], ◌∷◌, ◌++◌, append-nil}
+use mathlib.Core.List.{List, [], ◌++◌, append-nil}
 use Prim.Native.Nat.{ℕ, ◌+◌, ◌*◌, ◌^◌, ◌≤◌, ◌<◌}
 use native.Mathlib.Nat.{mul-le-mul_left, mul-one, le_of_lt}
 use native.Mathlib.Omega.{arith}
-use lib.Dec.{T, eqb, leb, leb→le, nleb→lt, lit<}
+use lib.Dec.{T, leb, leb→le, nleb→lt, lit<}
 use lib.ListN.{length, get_or, drop, length-append, length-drop, get_or-eq_default, drop_of_length-le}
 use lib.Seq.{drop-drop, drop-append-add}
 use borrow.Author.Tests.{leb-true, eqb-true, le-leb, eq-eqb}
 use Rattle.lists.specs.Table.{table, length_table, get_or_table, table_same, table_get_or}
 use Rattle.clip.specs.Layout.{bytes, words, header_length, offset, file_length, layout}
-use Rattle.clip.specs.Reading.{number, number_at, channels_field, frames_field, rate_field, offset_field, frames_from, offsets_match, is_layout}
+use Rattle.clip.specs.Reading.{number, channels_field, frames_field, rate_field, offset_field, frames_from, offsets_match, is_layout}
 use Rattle.clip.specs.Statement.{Below, IsClip, Sound, Complete}
 use Rattle.clip.proofs.Numbers.{length_bytes, skip, below_drop, number_bytes, number_lt, bytes_number}
 use Rattle.clip.proofs.Words.{length_words, word_at, words_numbers}

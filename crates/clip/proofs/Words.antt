@@ -1,12 +1,12 @@
 -- Words one after another, and the numbers read from them. Assumes nothing.
-use mathlib.Core.Path.{◌≡◌, refl, ap, sym, ◌∙◌}
-use mathlib.Core.List.{List, [], ◌∷◌, ◌++◌, append_assoc, append-nil}
+use mathlib.Core.Path.{◌≡◌, refl, ap}
+use mathlib.Core.List.{List, [], ◌∷◌, ◌++◌, append_assoc}
 use Prim.Native.Nat.{ℕ, zero, suc, ◌+◌, ◌*◌, ◌^◌, ◌≤◌, ◌<◌}
 use native.Mathlib.Nat.{le_of_suc-le-suc, not-suc-le-zero, mul-suc, add-zero}
 use native.Mathlib.Omega.{arith}
 use lib.ListN.{length, get_or, drop, length-append, length-drop}
 use lib.Seq.{drop-drop}
-use Rattle.lists.specs.Table.{table, table_same, table_get_or}
+use Rattle.lists.specs.Table.{table, table_same}
 use Rattle.clip.specs.Layout.{bytes, words}
 use Rattle.clip.specs.Reading.{number}
 use Rattle.clip.specs.Statement.{Below}

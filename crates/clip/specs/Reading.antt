@@ -1,11 +1,10 @@
 -- What reading a clip file answers: 15 where the file is not the layout's, then 1, 2 (document 01, 'Clip file' and the table). Definitions only.
-use Rattle.std.specs.Prelude.{Bool, true, false, not, ◌&&◌, cond, List, ℕ, zero, suc, ◌+◌, ◌*◌, leb, eqb, length, get_or, drop}
+use Rattle.std.specs.Prelude.{Bool, true, not, ◌&&◌, cond, List, ℕ, zero, suc, ◌+◌, ◌*◌, leb, eqb, length, get_or, drop}
 use Rattle.std.specs.Float.{binary32}
 use Rattle.std.specs.Float.Ieee.{of_bits}
 use Rattle.lists.specs.Table.{table}
 use Rattle.buffer.specs.Limits.{valid_shape, valid_rate}
 use Rattle.buffer.specs.Refusals.{SHAPE, RATE, LENGTH, LAYOUT}
-use Rattle.buffer.specs.declared.Shape.{Shape}
 use Rattle.clip.specs.Layout.{header_length, offset, file_length, max_length}
 use Rattle.clip.specs.declared.ClipHeader.{ClipHeader}
 use Rattle.clip.specs.declared.ClipRead.{ClipRead}

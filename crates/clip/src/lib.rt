@@ -1,5 +1,7 @@
 // The clip file: what its header says, and its frames. Every byte string of every length has an
 // answer.
+#![tactic(auto)]
+
 ghost use Rattle.std.specs.Prelude.{◌≡◌, ◌+◌, ◌*◌, ◌<◌, ◌≤◌, length, get_or};
 ghost use Rattle.clip.specs.Reading.{number_at, frames_from, offsets_match, is_layout, clip_read, frames_read, frames_out};
 ghost use Rattle.clip.specs.Statement.{ClipFile};

@@ -1,8 +1,8 @@
 -- The code's factor is the definition's: entry × 2^(octaves + 10) is a whole number below 2^53, and over 2^40 it is entry × 2^octaves / 2^30. Assumes nothing.
 use mathlib.Core.Path.{◌≡◌, refl, sym, ap, ◌∙◌, subst}
-use mathlib.Core.Bool.{Bool, true, false, cond}
-use Prim.Native.Nat.{ℕ, zero, suc, ◌+◌, ◌-◌, ◌*◌, ◌/◌, ◌%◌, ◌^◌, ◌≤◌, ◌<◌}
-use native.Mathlib.Nat.{mul_assoc, mul_comm, mul_right_comm, mul-one, one-mul, mul-pos, le_trans, mul-le-mul_left, mul-lt-mul_of_pos_right, lt_of_lt_of_le, mod-eq_of_lt, le_of_lt, lt_trans}
+use mathlib.Core.Bool.{false}
+use Prim.Native.Nat.{ℕ, suc, ◌+◌, ◌-◌, ◌*◌, ◌/◌, ◌%◌, ◌^◌, ◌≤◌, ◌<◌}
+use native.Mathlib.Nat.{mul_assoc, mul_comm, mul-one, mul-pos, mul-le-mul_left, mul-lt-mul_of_pos_right, lt_of_lt_of_le}
 use native.Mathlib.Omega.{arith}
 use lib.Dec.{lit<, lit≤}
 use lib.IntN.{ℤ, pos, negsuc}
@@ -16,7 +16,7 @@ use borrow.Author.Tests.{ltb-false, leb-false}
 use Rattle.rounding.proofs.Exact.{value_same}
 use Rattle.rounding.proofs.Operations.{div_value}
 use Rattle.detune.specs.Counted.{from_lowest}
-use Rattle.detune.specs.Detune.{entry, octaves, above, bad_cents, factor_of}
+use Rattle.detune.specs.Detune.{octaves, above, bad_cents}
 
 -- ---- octaves counted from 10 below, and the cents above them
 pub limit : (z : ℤ) → bad_cents z ≡ false → from_lowest z ≤ 24000

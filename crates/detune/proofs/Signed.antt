@@ -1,11 +1,11 @@
 -- Cents below, above and inside −12,000 to 12,000, as the code's tests on an i32 tell them. Assumes nothing.
-use mathlib.Core.Path.{◌≡◌, refl, ap, subst⁻¹}
-use mathlib.Core.Bool.{Bool, true, false}
-use Prim.Native.Nat.{ℕ, suc, ◌+◌, ◌-◌, ◌≤◌, ◌<◌}
+use mathlib.Core.Path.{◌≡◌, ap, subst⁻¹}
+use mathlib.Core.Bool.{true, false}
+use Prim.Native.Nat.{suc, ◌≤◌}
 use native.Mathlib.Nat.{add_comm}
 use native.Mathlib.Omega.{arith}
 use borrow.Author.Tests.{ltb-true, ltb-false, le-leb, lt-leb, le-ltb}
-use lib.Dec.{T, ltb}
+use lib.Dec.{T}
 use lib.IntN.{ℤ, pos, negsuc, ◌+ℤ◌}
 use lib.Signed.{lt_z}
 use Rattle.detune.specs.Counted.{from_lowest}

@@ -1,4 +1,6 @@
 // Detune in whole cents: the table of an octave, and the factor that a block is played with.
+#![tactic(auto)]
+
 ghost use Rattle.std.specs.Prelude.{◌≡◌, ◌<◌};
 ghost use Rattle.detune.specs.Counted.{counted};
 ghost use Rattle.detune.specs.Detune.{entry, bad_cents, factored};

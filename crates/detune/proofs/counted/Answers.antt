@@ -1,9 +1,9 @@
 -- `detune::counted` meets its contract: an i32 is read from its bits as it was. Assumes nothing.
-use mathlib.Core.Path.{◌≡◌, refl, sym, ap, ◌∙◌}
+use mathlib.Core.Path.{◌≡◌, ap, ◌∙◌}
 use mathlib.Core.Bool.{true, false}
-use Prim.Native.Nat.{ℕ, ◌≤◌}
+use Prim.Native.Nat.{◌≤◌}
 use native.Mathlib.Omega.{arith}
-use lib.Dec.{T, lit<}
+use lib.Dec.{T}
 use lib.IntN.{ℤ, pos, negsuc, nat_abs, ◌+ℤ◌}
 use lib.Signed.{lt_z, non_neg}
 use mir.Syntax.{w32, w64}
@@ -12,8 +12,7 @@ use mir.Facts.{to_z-of_z}
 use Rattle.detune.specs.Counted.{counted, from_lowest}
 use Rattle.detune.specs.Detune.{bad_cents}
 use Rattle.detune.proofs.Signed.{low, high, inside}
-use Rattle.detune.proofs.counted.Statement.{statement}
-use Rattle.detune.proofs.counted.Tie as tie
+use Rattle.detune.proofs.counted.Goals as goal
 
 module _ (z : ℤ) (fits : SFits w32 z) where
   back : to_z w32 (of_z w32 z) ≡ z
@@ -50,20 +49,17 @@ module _ (z : ℤ) (fits : SFits w32 z) where
     unfolding counted
     counts = rw (whole, parts.0)
 
-returns : tie.Need-returns
-returns c = outside c.before.args.cents c.before.ranges.cents c.if1.true
+pub returns-then-cents-ltminus12000 : goal.returns-then-cents-ltminus12000
+returns-then-cents-ltminus12000 c = outside c.args.cents c.ranges.cents c.if-cents-ltminus12000.true
 
-returns-2 : tie.Need-returns-2
-returns-2 c = beyond c.before.before.args.cents c.before.before.ranges.cents c.if2.true
+pub returns-then-cents-gt12000 : goal.returns-then-cents-gt12000
+returns-then-cents-gt12000 c = beyond c.args.cents c.ranges.cents c.if-cents-gt12000.true
 
-add-result : tie.Need-overflow-add-result
-add-result c = adds c.before.before.args.cents c.before.before.ranges.cents c.before.if1.false c.if2.false
+pub overflow_add-result : goal.overflow_add-result
+overflow_add-result c = adds c.args.cents c.ranges.cents c.if-cents-ltminus12000.false c.if-cents-gt12000.false
 
-cast-result : tie.Need-overflow-cast-result
-cast-result c = casts c.before.before.args.cents c.before.before.ranges.cents c.before.if1.false c.if2.false
+pub overflow_cast-result : goal.overflow_cast-result
+overflow_cast-result c = casts c.args.cents c.ranges.cents c.if-cents-ltminus12000.false c.if-cents-gt12000.false
 
-returns-3 : tie.Need-returns-3
-returns-3 c = counts c.before.before.args.cents c.before.before.ranges.cents c.before.if1.false c.if2.false
-
-pub counted_spec : {M : Type 1} → statement M
-counted_spec = tie.close (tie.spec returns returns-2 add-result cast-result returns-3)
+pub returns : goal.returns
+returns c = counts c.args.cents c.ranges.cents c.if-cents-ltminus12000.false c.if-cents-gt12000.false

@@ -1,14 +1,12 @@
 -- `detune::factor` meets its contract: the count tells bad cents, and the quotient is the definition's factor. Assumes nothing.
-use mathlib.Core.Path.{◌≡◌, refl, sym, ap, ◌∙◌, subst}
+use mathlib.Core.Path.{◌≡◌, refl, ap, ◌∙◌}
 use mathlib.Core.Bool.{Bool, true, false, cond}
-use Prim.Native.Nat.{ℕ, ◌+◌, ◌*◌, ◌/◌, ◌%◌, ◌^◌, ◌≤◌, ◌<◌}
+use Prim.Native.Nat.{ℕ, ◌*◌, ◌/◌, ◌%◌, ◌^◌, ◌≤◌, ◌<◌}
 use native.Mathlib.Nat.{mod-eq_of_lt, lt_of_lt_of_le}
 use native.Mathlib.Omega.{arith}
-use borrow.Author.Rules.{rules}
-use borrow.Author.Tests.{le-leb}
 use lib.Dec.{T, le→leb, lit≤}
 use lib.IntN.{ℤ, pos}
-use lib.Ieee.{Float, fin, binary64, round, div, up, down, of_int, in_float, of_bits}
+use lib.Ieee.{binary64, round, div, up, down, of_int, in_float, of_bits}
 use mir.Syntax.{w32}
 use mir.Val.{SFits, to_z, of_z}
 use mir.Facts.{to_z-of_z}
@@ -17,8 +15,7 @@ use Rattle.detune.specs.Counted.{counted, from_lowest}
 use Rattle.detune.specs.Detune.{entry, octaves, above, bad_cents, factor_of, factored}
 use Rattle.detune.proofs.Quotient.{limit, index, below, quotient}
 use Rattle.detune.proofs.Rule.{entry_below}
-use Rattle.detune.proofs.factor.Statement.{statement}
-use Rattle.detune.proofs.factor.Tie as tie
+use Rattle.detune.proofs.factor.Goals as goal
 
 -- a count above 24,000 is that of bad cents, and of no others
 outside : (z : ℤ) → 24000 < counted z → Refused 16 ≡ factored z
@@ -67,31 +64,16 @@ module _ (z : ℤ) (k e : ℕ) (own : SFits w32 z) (read : k ≡ counted (to_z w
   unfolding factored factor_of of_bits
   answer = rw (same, good) (ap By (quotient z e good small ∙ ap (λ (n : ℕ). round binary64 false (n * up (octaves z)) (2 ^ 30 * down (octaves z))) entered))
 
-counted-requires : tie.Need-counted-requires
-counted-requires c κs = search rules
+pub returns-then-k-gt24000 : goal.returns-then-k-gt24000
+returns-then-k-gt24000 c =
+    let z = c.args.cents in
+    let is = c.counted-k.ensures ∙ ap counted (to_z-of_z {w = w32} {z = z} c.ranges.cents) in
+    outside z (rw is at c.if-k-gt24000.true)
 
-returns : tie.Need-returns
-returns c =
-    let z = c.before.before.args.cents in
-    let is = c.before.counted.ensures ∙ ap counted (to_z-of_z {w = w32} {z = z} c.before.before.ranges.cents) in
-    outside z (rw is at c.if1.true)
+pub int_to_float-result : goal.int_to_float-result
+int_to_float-result c = holds c.args.cents c.counted-k.result c.entry.result
+    c.ranges.cents c.counted-k.ensures c.if-k-gt24000.false c.entry.ensures
 
-entry-requires : tie.Need-entry-requires
-entry-requires c κs = search rules
-
-cast-scaled : tie.Need-overflow-cast-scaled
-cast-scaled c = search rules
-
-shl-scaled : tie.Need-overflow-shl-scaled
-shl-scaled c = search rules
-
-int-to-float-t10 : tie.Need-int-to-float-t10
-int-to-float-t10 c = holds c.before.before.before.before.args.cents c.before.before.before.counted.result c.before.entry.result
-    c.before.before.before.before.ranges.cents c.before.before.before.counted.ensures c.before.before.if1.false c.before.entry.ensures
-
-returns-2 : tie.Need-returns-2
-returns-2 c = answer c.before.before.before.before.args.cents c.before.before.before.counted.result c.before.entry.result
-    c.before.before.before.before.ranges.cents c.before.before.before.counted.ensures c.before.before.if1.false c.before.entry.ensures
-
-pub factor-spec : {M : Type 1} → statement M
-factor-spec = tie.close (tie.spec counted-requires returns entry-requires cast-scaled shl-scaled int-to-float-t10 returns-2)
+pub returns : goal.returns
+returns c = answer c.args.cents c.counted-k.result c.entry.result
+    c.ranges.cents c.counted-k.ensures c.if-k-gt24000.false c.entry.ensures

@@ -1,8 +1,6 @@
 -- `detune::is_bad_cents` meets its contract: a count above 24,000 is that of bad cents, and of no others. Assumes nothing.
 use mathlib.Core.Path.{◌≡◌, refl, ap, ◌∙◌}
 use mathlib.Core.Bool.{Bool, true, false, cond}
-use Prim.Native.Nat.{ℕ}
-use borrow.Author.Rules.{rules}
 use borrow.Author.Tests.{le-ltb}
 use lib.Dec.{ltb}
 use lib.IntN.{ℤ}
@@ -11,8 +9,7 @@ use mir.Facts.{to_z-of_z}
 use Rattle.detune.specs.Counted.{counted, from_lowest}
 use Rattle.detune.specs.Detune.{bad_cents}
 use Rattle.detune.proofs.Quotient.{limit}
-use Rattle.detune.proofs.is_bad_cents.Statement.{statement}
-use Rattle.detune.proofs.is_bad_cents.Tie as tie
+use Rattle.detune.proofs.is_bad_cents.Goals as goal
 
 tells : (z : ℤ) → ltb 24000 (counted z) ≡ bad_cents z
 unfolding counted
@@ -22,13 +19,7 @@ tells z = go (bad_cents z) refl
     go true e = refl
     go false e = le-ltb 24000 (from_lowest z) (limit z e)
 
-counted-requires : tie.Need-counted-requires
-counted-requires c κs = search rules
-
-returns : tie.Need-returns
+pub returns : goal.returns
 returns c =
-    let z = c.before.args.cents in
-    ap (ltb 24000) (c.counted.ensures ∙ ap counted (to_z-of_z {w = w32} {z = z} c.before.ranges.cents)) ∙ tells z
-
-pub is-bad-cents-spec : {M : Type 1} → statement M
-is-bad-cents-spec = tie.close (tie.spec counted-requires returns)
+    let z = c.args.cents in
+    ap (ltb 24000) (c.counted.ensures ∙ ap counted (to_z-of_z {w = w32} {z = z} c.ranges.cents)) ∙ tells z

@@ -1,20 +1,19 @@
 -- `detune::factor_is_exact` meets its contract. Assumes nothing.
-use mathlib.Core.Path.{◌≡◌, refl, sym, ap, subst}
+use mathlib.Core.Path.{◌≡◌, refl, ap}
 use mathlib.Core.Bool.{false}
-use Prim.Native.Nat.{ℕ, suc, ◌+◌, ◌-◌, ◌*◌, ◌/◌, ◌%◌, ◌^◌, ◌<◌}
+use Prim.Native.Nat.{suc, ◌+◌, ◌-◌, ◌*◌, ◌/◌, ◌%◌, ◌^◌}
 use native.Mathlib.Omega.{arith}
 use lib.Dec.{T}
 use lib.IntN.{ℤ, pos, negsuc, ◌+ℤ◌, ◌*ℤ◌}
 use borrow.Author.Tests.{lt-ltb}
-use lib.Ieee.{Float, round, fin, fits, up, down, binary64}
+use lib.Ieee.{round, fin, fits, up, down, binary64}
 use lib.Ieee.Exact.{HasValue}
 use lib.Ieee.Fits.{round-fits}
 use Rattle.detune.specs.Table.{entries}
 use Rattle.detune.specs.Detune.{entry, octaves, above, bad_cents, factor_of}
 use Rattle.detune.proofs.Quotient.{under, exact}
 use Rattle.detune.proofs.Rule.{entry_below}
-use Rattle.detune.proofs.factor_is_exact.Statement.{statement}
-use Rattle.detune.proofs.factor_is_exact.Tie as tie
+use Rattle.detune.proofs.factor_is_exact.Goals as goal
 
 parts : (z : ℤ) → z ≡ pos 1200 *ℤ octaves z +ℤ pos (above z)
 unfolding octaves above
@@ -48,7 +47,7 @@ cent_down : HasValue (factor_of (negsuc 0)) false (entry 1199) (2 ^ 31)
 unfolding octaves above bad_cents entries
 cent_down = value (negsuc 0) refl
 
-returns : tie.Need-returns
+pub returns : goal.returns
 returns c = record {
   parts = parts;
   rest = under;
@@ -59,6 +58,3 @@ returns c = record {
   octave_up = octave_up;
   cent_down = cent_down;
 }
-
-pub factor-is-exact-spec : {M : Type 1} → statement M
-factor-is-exact-spec = tie.close (tie.spec returns)
