@@ -1,5 +1,5 @@
 -- `cents::process_cents` meets its contract: in each arm the factor's answer says whether the cents are good. Assumes nothing.
-use mathlib.Core.Path.{◌≡◌, refl, sym, ap, ◌∙◌}
+use mathlib.Core.Path.{◌≡◌, sym, ap, ◌∙◌}
 use Prim.Native.Nat.{ℕ}
 use mathlib.Core.List.{List}
 use mathlib.Core.Bool.{true}
@@ -19,9 +19,7 @@ use Rattle.player.specs.declared.Rendered.TheVariants.{Refused}
 use Rattle.cents.specs.Cents.{rendered_cents, output_cents, factored_at}
 use Rattle.cents.proofs.Same.{refused, unwritten}
 use Rattle.cents.proofs.Silent.{at_answer, at_output, at_bad}
-use borrow.Author.Rules.{rules}
-use Rattle.cents.proofs.process_cents.Statement.{statement}
-use Rattle.cents.proofs.process_cents.Tie as tie
+use Rattle.cents.proofs.process_cents.Goals as goal
 
 module _ (p : Player) (out samples : List ℕ) (time rate : Float) (cents : ℤ) (own : SFits w32 cents) (d : Detune) (of : d ≡ factored_at 128 p time (to_z w32 (of_z w32 cents))) where
   is : factored_at 128 p time cents ≡ d
@@ -40,36 +38,13 @@ module _ (p : Player) (out samples : List ℕ) (time rate : Float) (cents : ℤ)
       let bad = at_bad 128 p time cents number (is ∙ e) in
       (ap Refused h ∙ sym (refused 128 p time rate cents bad (length out) (length samples)), sym (unwritten 128 p time rate cents bad out samples))
 
-factor-at-requires : tie.Need-factor-at-requires
-factor-at-requires c κs = search rules
+pub returns-in-By : goal.returns-in-By
+returns-in-By c =
+    detuned c.args.p c.args.out.now c.args.samples.now c.args.time c.args.rate c.args.cents c.ranges.cents _
+    c.factor_at.ensures _ c.in-By.is
+    _ _ c.process.ensures
 
-enum-known-factor : tie.Need-enum-known-factor
-enum-known-factor c = search rules
-
-process-requires : tie.Need-process-requires
-process-requires c κs = search rules
-
-enum_told : tie.Need-enum-told
-enum_told c = search rules
-
-block-refusal-requires : tie.Need-block-refusal-requires
-block-refusal-requires c κs = search rules
-
-same_length : tie.Need-same-length
-same_length c = search rules
-
-returns : tie.Need-returns
-returns c =
-    let s = c.before.before.before.before.before.before.before.before.before.before in
-    detuned s.args.p s.args.out.now s.args.samples.now s.args.time s.args.rate s.args.cents s.ranges.cents _
-    c.before.before.before.before.before.before.before.factor-at.ensures _ c.before.before.before.before.before.factor.given.1
-    _ _ c.before.before.process.ensures
-
-returns-2 : tie.Need-returns-2
-returns-2 c =
-    let s = c.before.before.before.before.before.before in
-    down s.args.p s.args.out.now s.args.samples.now s.args.time s.args.rate s.args.cents s.ranges.cents _
-    c.before.before.before.factor-at.ensures _ c.before.enum_told.given.1 _ c.block-refusal.ensures
-
-pub process-cents-spec : {M : Type 1} → statement M
-process-cents-spec = tie.close (tie.spec factor-at-requires enum-known-factor process-requires enum_told block-refusal-requires same_length returns returns-2)
+pub returns-in-Refused : goal.returns-in-Refused
+returns-in-Refused c =
+    down c.args.p c.args.out.now c.args.samples.now c.args.time c.args.rate c.args.cents c.ranges.cents _
+    c.factor_at.ensures _ c.in-Refused.is _ c.block_refusal.ensures
