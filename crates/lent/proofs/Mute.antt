@@ -1,7 +1,7 @@
 -- A player with a buffer of no channels keeps it, and its blocks are refused.
 use mathlib.Core.Path.{◌≡◌, refl, sym}
 use mathlib.Core.Bool.{Bool, true, false, not, ◌||◌, cond, true≢false}
-use Prim.Native.Nat.{ℕ, suc, ◌*◌, ◌≤◌}
+use Prim.Native.Nat.{ℕ, zero, suc, ◌*◌, ◌≤◌}
 use native.Mathlib.Omega.{arith}
 use borrow.Author.Tests.{ne_eqb}
 use lib.Ieee.{Float}
@@ -93,6 +93,7 @@ some_refusal p m n time bad rate factor h = fifth (not (eqb m (32 * 128))) (bad_
 -- an answer by a number that is not 0
 by_number : (p : Player) (block : Rendered) (k : ℕ) → 1 ≤ k → Refuses p (cond (eqb k 0) block (answer.Refused k))
 unfolding after_block
+by_number p block zero some = absurd (omega arith)
 by_number p block (suc k) some = rw (ne_eqb (suc k) 0 (λ e. omega (arith, e))) (some, refl)
 
 pub is_refused : IsRefused

@@ -15,9 +15,7 @@ use Rattle.player.specs.declared.Player.{Player}
 use Rattle.seconds.specs.Seconds.{one}
 use Rattle.lent.specs.declared.Factored.{Factored}
 use Rattle.lent.specs.Lent.{factor_for}
-use borrow.Author.Rules.{rules}
-use Rattle.lent.proofs.factor_of.Statement.{statement}
-use Rattle.lent.proofs.factor_of.Tie as tie
+use Rattle.lent.proofs.factor_of.Goals as goal
 
 unaltered : (p : Player) (time : Float) → ◌≡◌ {A = Factored} (record { factor = of_bits binary64 4607182418800017408; refusal = 0 }) (factor_for (factored_at 128 p time (pos 0)))
 unfolding factor_for factored_at bad_cents factor_of octaves above entries round of_bits
@@ -27,22 +25,13 @@ unaltered p time = go (is_silent 128 p time)
     go true = refl
     go false = refl
 
-returns : tie.Need-returns
+pub returns-then-cents-eq0 : goal.returns-then-cents-eq0
+returns-then-cents-eq0 c =
+    let z = c.args.cents in
+    let is : z ≡ pos 0 = sym (to_z-of_z {w = w32} {z = z} c.ranges.cents) ∙ ap (to_z w32) c.if-cents-eq0.true in
+    rw is (unaltered c.args.p c.args.time)
+
+pub returns : goal.returns
 returns c =
-    let z = c.before.args.cents in
-    let is : z ≡ pos 0 = sym (to_z-of_z {w = w32} {z = z} c.before.ranges.cents) ∙ ap (to_z w32) c.if1.true in
-    rw is (unaltered c.before.args.p c.before.args.time)
-
-factor-at-requires : tie.Need-factor-at-requires
-factor-at-requires c κs = search rules
-
-factor-for-requires : tie.Need-factor-for-requires
-factor-for-requires c κs = search rules
-
-returns-2 : tie.Need-returns-2
-returns-2 c =
-    let back = to_z-of_z {w = w32} c.before.before.before.ranges.cents in
-    simp (c.factor-for.ensures, c.before.factor-at.ensures, back)
-
-pub factor-of-spec : {M : Type 1} → statement M
-factor-of-spec = tie.close (tie.spec returns factor-at-requires factor-for-requires returns-2)
+    let back = to_z-of_z {w = w32} c.ranges.cents in
+    simp (c.factor_for.ensures, c.factor_at.ensures, back)
