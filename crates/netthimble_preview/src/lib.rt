@@ -21,7 +21,7 @@ pub extern "C" fn netthimble_player_preview(
     factor: f64,
 ) -> BlockAnswer
     ensures { (result ≡ (after_block p.now (rendered 128 p.now (length out.old) (length samples.now) time rate factor)).answer)
-        × (p.now ≡ p.now)
+        × (p.exit.now ≡ p.entry.now)
         × (out.new ≡ output 128 p.now out.old samples.now time rate factor) }
 {
     block_by_value(*p, out, samples, time, rate, factor).answer

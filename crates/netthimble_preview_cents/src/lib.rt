@@ -23,7 +23,7 @@ pub extern "C" fn netthimble_player_preview_cents(
 ) -> BlockAnswer
     ensures { (result
         ≡ (after_block p.now (rendered_cents 128 p.now (length out.old) (length samples.now) time rate cents)).answer)
-        × (p.now ≡ p.now)
+        × (p.exit.now ≡ p.entry.now)
         × (out.new ≡ output_cents 128 p.now out.old samples.now time rate cents) }
 {
     cents_by_value(*p, out, samples, time, rate, cents).answer
