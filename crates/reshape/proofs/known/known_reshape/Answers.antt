@@ -8,13 +8,9 @@ use Rattle.lists.specs.Table.{table}
 use Rattle.buffer.specs.Limits.{valid_shape, valid_rate}
 use Rattle.reshape.specs.Known.{KnownReshape}
 use Rattle.reshape.specs.Converting.{relabels, converted_length, converted_shape, playhead, fraction, mixed, previous, resampled, converted_samples}
-use Rattle.reshape.proofs.known.known_reshape.Statement.{statement}
-use Rattle.reshape.proofs.known.known_reshape.Tie as tie
+use Rattle.reshape.proofs.known.known_reshape.Goals as goal
 
-returns : tie.Need-returns
+pub returns : goal.returns
 unfolding KnownReshape valid_shape valid_rate relabels converted_length converted_shape playhead fraction mixed previous resampled converted_samples
     floor ceil convert magnitude float_eq rows table round sum add sub mul div neg lt eq le of_int of_bits to_bits to_unsigned
 returns c = (refl, refl)
-
-pub known-reshape-spec : {M : Type 1} → statement M
-known-reshape-spec = tie.close (tie.spec returns)
