@@ -1,5 +1,5 @@
 -- What joining leaves in a lent output: a channel's part, and a turn of the loop over the channels. Assumes nothing.
-use Rattle.std.proofs.Common.{◌≡◌, ℕ, ◌+◌, ◌-◌, ◌*◌, ◌<◌, ◌≤◌, List, [], ◌++◌, length, take, drop, sym, ap, ◌∙◌, append-nil, arith, length-append, length-drop, drop_of_length-le, length-take, take_at, drop_at}
+use Rattle.std.proofs.Common.{◌≡◌, ℕ, ◌+◌, ◌-◌, ◌*◌, ◌<◌, ◌≤◌, List, ◌++◌, length, take, drop, sym, ap, ◌∙◌, append-nil, arith, length-append, length-drop, drop_of_length-le, length-take, take_at, drop_at}
 use Rattle.lists.specs.Parts.{span, length_part}
 use Rattle.lists.specs.Rows.{rows, rows_turn, row_fits}
 use Rattle.buffer.specs.Channels.{channel, length_channel}

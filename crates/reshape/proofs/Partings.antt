@@ -1,9 +1,9 @@
 -- What is known where a split is accepted: every check before it passed. Assumes nothing.
-use Rattle.std.proofs.Common.{◌≡◌, ℕ, ◌+◌, ◌-◌, ◌*◌, ◌≤◌, Bool, true, false, not, eqb, ltb, List, length, take, drop, sym, refl, ap, ◌∙◌, mul_comm, arith, length-drop, take_all, ltb-false, eqb-true}
+use Rattle.std.proofs.Common.{◌≡◌, ℕ, ◌-◌, ◌*◌, ◌≤◌, Bool, true, false, not, eqb, ltb, List, length, take, drop, sym, refl, ap, ◌∙◌, mul_comm, arith, length-drop, take_all, ltb-false, eqb-true}
 use borrow.Author.Tests.{not-false}
 use Rattle.lists.specs.Rows.{rows, rows_same}
 use Rattle.buffer.specs.Refusals.{SHAPE, RATE, POINT, LENGTH}
-use Rattle.buffer.specs.Limits.{max_frames, valid_shape, valid_rate, Valid, valid}
+use Rattle.buffer.specs.Limits.{valid_shape, valid_rate, Valid, valid}
 use Rattle.buffer.specs.Channels.{channel, length_channel}
 use Rattle.reshape.specs.Parting.{split_shapes, both_fitted, BothBounded}
 use Rattle.buffer.specs.declared.Shape.{Shape}

@@ -1,5 +1,5 @@
 -- Document 01, 'Known frames': the starred one about conversion, as one claim about the definitions.
-use Rattle.std.specs.Prelude.{◌≡◌, ℕ, List, [], ◌∷◌, pos, to_bits, Float}
+use Rattle.std.specs.Prelude.{◌≡◌, ℕ, [], ◌∷◌, pos, to_bits, Float}
 use Rattle.std.specs.Float.{binary32}
 use Rattle.std.specs.Float.Ieee.{of_int}
 use Rattle.buffer.specs.declared.Shape.{Shape}

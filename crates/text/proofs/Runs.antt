@@ -10,7 +10,7 @@ use borrow.Author.Tests.{eq-eqb, ne_eqb}
 use lib.Dec.{eqb}
 use lib.ListN.{length, get_or, take, drop, length-append, length-drop, drop_of_length-le}
 use lib.Seq.{drop-cons, drop-drop}
-use Rattle.commands.specs.Digits.{flag, hex, decimal_of}
+use Rattle.commands.specs.Digits.{flag}
 use Rattle.text.specs.Same.{same}
 use Rattle.text.specs.Lines.{field, run_line, runs_from, runs, channel_lines, block_line}
 use Rattle.commands.proofs.OneDigit.{length_hex, length_decimal}

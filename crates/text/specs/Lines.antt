@@ -1,5 +1,5 @@
 -- The lines that are printed: a block with its runs of equal bits, and a refusal (document 01, '`trial`'). Definitions only.
-use Rattle.std.specs.Prelude.{Bool, true, false, ◌&&◌, cond, List, [], ◌∷◌, ◌++◌, ℕ, zero, suc, ◌+◌, ◌*◌, leb, eqb, length, take, drop}
+use Rattle.std.specs.Prelude.{Bool, ◌&&◌, cond, List, [], ◌∷◌, ◌++◌, ℕ, zero, suc, ◌+◌, ◌*◌, leb, eqb, length, take, drop}
 use Rattle.std.proofs.lemmas.List.Edits.{sets}
 use Rattle.commands.specs.Digits.{SPACE, flag, hex, decimal}
 use Rattle.text.specs.declared.Printed.{Printed}

@@ -1,4 +1,6 @@
 // The text of `trial`: the bytes that it prints.
+#![tactic(auto)]
+
 mod digits;
 mod lines;
 
