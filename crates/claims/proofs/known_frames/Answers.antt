@@ -1,6 +1,5 @@
 -- `claims::known_frames` meets its contract: three parts are what the crates below claim, the others are computed. Assumes nothing.
 use mathlib.Core.Path.{refl}
-use borrow.Author.Rules.{rules}
 use lib.Ieee.{of_bits, of_int, round, sum, add, mul, div, rem, lt, le, eq, ne, neg, sub, to_unsigned}
 use Rattle.lists.specs.Table.{table}
 use Rattle.rounding.specs.Rounding.{round_away}
@@ -12,8 +11,7 @@ use Rattle.aligned.specs.Aligned.{first_frame, ends_within, played, next_frame, 
 use Rattle.player.specs.Block.{start_at, is_aligned, has_ended, turns_over, aligned_plan, plan}
 use Rattle.claims.specs.Calls.{next}
 use Rattle.claims.specs.Known.{KnownLoopPoints, KnownPlayback}
-use Rattle.claims.proofs.known_frames.Statement.{statement}
-use Rattle.claims.proofs.known_frames.Tie as tie
+use Rattle.claims.proofs.known_frames.Goals as goal
 
 loop-points : KnownLoopPoints
 unfolding KnownLoopPoints clamped_start clamped_end of_bits lt le eq
@@ -23,28 +21,13 @@ playback : KnownPlayback
 unfolding KnownPlayback next handled buffered on_start on_loop bad_time clamped clamped_start clamped_end fresh valid_rate valid_shape duration plan is_aligned start_at aligned_plan has_ended turns_over first_frame ends_within aligned_sample played next_frame last_wrap aligned_position dt block_seconds block_end table round_away of_bits of_int round sum add mul div rem lt le eq ne neg sub to_unsigned
 playback = (refl, refl, refl)
 
-known-rounding-requires : tie.Need-known-rounding-requires
-known-rounding-requires c κs = search rules
-
-known-fused-requires : tie.Need-known-fused-requires
-known-fused-requires c κs = search rules
-
-known-buffer-requires : tie.Need-known-buffer-requires
-known-buffer-requires c κs = search rules
-
-known-reshape-requires : tie.Need-known-reshape-requires
-known-reshape-requires c κs = search rules
-
-returns : tie.Need-returns
+pub returns : goal.returns
 returns c =
     record {
-      rounding = c.before.before.before.known-rounding.ensures;
-      fused = c.before.before.known-fused.ensures;
-      buffers = c.before.known-buffer.ensures;
-      reshaped = c.known-reshape.ensures;
+      rounding = c.known_rounding.ensures;
+      fused = c.known_fused.ensures;
+      buffers = c.known_buffer.ensures;
+      reshaped = c.known_reshape.ensures;
       loop_points = loop-points;
       playback = playback;
     }
-
-pub known-frames-spec : {M : Type 1} → statement M
-known-frames-spec = tie.close (tie.spec known-rounding-requires known-fused-requires known-buffer-requires known-reshape-requires returns)

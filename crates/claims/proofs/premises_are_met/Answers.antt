@@ -21,8 +21,7 @@ use Rattle.cents.specs.Cents.{cents_refusal, rendered_cents}
 use Rattle.claims.specs.Longer.{replaced, unlooked}
 use Rattle.preview.specs.Preview.{shown, previewed, previewed_cents}
 use Rattle.claims.specs.Instances.{rate, frames, looped_calls, plain_calls, stopped_calls, longer_calls, previewed_calls, Met, Instances}
-use Rattle.claims.proofs.premises_are_met.Statement.{statement}
-use Rattle.claims.proofs.premises_are_met.Tie as tie
+use Rattle.claims.proofs.premises_are_met.Goals as goal
 
 abbrev ownClip : Clip
 ownClip = record { channels = 1; frames = 3; rate = rate; samples = frames }
@@ -78,8 +77,5 @@ instances = (
   record { between = refl; lengths = refl; short = refl; far = refl },
 )
 
-returns : tie.Need-returns
+pub returns : goal.returns
 returns c = instances
-
-pub premises-are-met-spec : {M : Type 1} → statement M
-premises-are-met-spec = tie.close (tie.spec returns)

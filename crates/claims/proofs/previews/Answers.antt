@@ -1,9 +1,8 @@
 -- `claims::previews` meets its contract: `proofs/Unseen.antt` has the laws. Assumes nothing.
 use Rattle.claims.proofs.Unseen.{unseen, leaves, foretold, foretold_in_cents_lem, any_output_lem, any_output_in_cents_lem, unwritten, unwritten_in_cents_lem, replaced_same_lem}
-use Rattle.claims.proofs.previews.Statement.{statement}
-use Rattle.claims.proofs.previews.Tie as tie
+use Rattle.claims.proofs.previews.Goals as goal
 
-returns : tie.Need-returns
+pub returns : goal.returns
 returns c = record {
   unseen = unseen;
   leaves = leaves;
@@ -15,6 +14,3 @@ returns c = record {
   unwritten_in_cents = λ p out samples time rate cents number. unwritten_in_cents_lem p out samples time rate number cents;
   replaced_same = replaced_same_lem;
 }
-
-pub previews-spec : {M : Type 1} → statement M
-previews-spec = tie.close (tie.spec returns)
