@@ -1,4 +1,6 @@
 // What one line of `trial` does to the player and prints.
+#![tactic(auto)]
+
 ghost use Rattle.std.specs.Prelude.{◌≡◌, ◌≤◌, length};
 ghost use Rattle.std.proofs.lemmas.List.Edits.{sets};
 ghost use Rattle.text.specs.Lines.{block_room};
@@ -12,14 +14,14 @@ use rounding::{from_pattern_f64, whole};
 use text::{BLOCK_ROOM, Printed};
 
 // The player, and the number of the next `B` line.
-#[derive(Drop)]
+#[derive(Clone, Copy)]
 pub struct Session {
     pub player: Player,
     pub number: usize,
 }
 
 // The session that a line leaves, and how many bytes it printed.
-#[derive(Drop)]
+#[derive(Clone, Copy)]
 pub struct Answer {
     pub session: Session,
     pub printed: usize,

@@ -19,7 +19,7 @@ use Rattle.session.specs.declared.Fed.{Fed}
 use Rattle.obeying.specs.declared.Obeyed.{Obeyed}
 use Rattle.obeying.specs.declared.Obeyed.TheVariants.{Line, NoRoom}
 use Rattle.obeying.specs.Obeying.{reply, Outcome, outcome, obeyed, has_room, answer_of, answered, words_after, out_after}
-use Rattle.session.specs.Feeding.{Run, run, run_of, line_obeyed, ended, lengthened, extended, stepped, said, Progress, progress, advanced, feeding, goes_on, fed, finished, taken_of, fed_of}
+use Rattle.session.specs.Feeding.{Run, run_of, line_obeyed, ended, lengthened, extended, stepped, said, Progress, progress, advanced, feeding, goes_on, fed, finished, taken_of, fed_of}
 use Rattle.obeying.proofs.Lengths.{obeyed_fits}
 
 -- ---- lists

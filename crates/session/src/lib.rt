@@ -1,5 +1,7 @@
 // A run of `trial` after its clip is read: how an input that comes in chunks is cut into lines,
 // each of which is obeyed (the crate `obeying`).
+#![tactic(auto)]
+
 mod feeding;
 
 ghost use Rattle.session.specs.Statement.{TranscriptOfChunks};

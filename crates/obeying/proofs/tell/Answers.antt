@@ -1,0 +1,16 @@
+-- `obeying::tell` meets its contract: by what the message is answered. Assumes nothing.
+use Rattle.std.proofs.Common.{sym, ap, ◌∙◌}
+use lib.Seq.{sets}
+use Rattle.obeying.specs.Obeying.{Reply, answer_of}
+use Rattle.obeying.proofs.Replies.{message_done, message_refused}
+use Rattle.obeying.proofs.tell.Goals as goal
+
+pub returns-in-Refused : goal.returns-in-Refused
+returns-in-Refused c =
+    let e = message_refused c.args.session c.args.message _ (sym c.handle_control_message.ensures ∙ c.in-Refused.is) in
+    (c.refuse.ensures.0 ∙ ap answer_of (sym e), c.refuse.ensures.1 ∙ ap (λ (r : Reply). sets c.args.out.now 0 r.text) (sym e))
+
+pub returns : goal.returns
+returns c =
+    let e = message_done c.args.session c.args.message _ (sym c.handle_control_message.ensures ∙ c.in-Done.is) in
+    (ap answer_of (sym e), ap (λ (r : Reply). sets c.args.out.now 0 r.text) (sym e))
