@@ -1,106 +1,91 @@
 // Runs the calls of `buffer` and `reshape` on small buffers, and the known frames of document 01
 // that are executed. Each answer is a line: its values or X and the refusal's number, then the words
 // that the lent slice holds.
+#![tactic(auto)]
+
 use buffer::{Copied, Shape};
-use libc::STDOUT_FILENO;
 use reshape::{Made, Parted};
+use std::io;
 
-fn print_word(word: u32) {
-    io::write_all(STDOUT_FILENO, b" ");
-    io::print_hex(STDOUT_FILENO, word as u64, 8);
-}
-
-fn end_line() {
-    io::write_all(STDOUT_FILENO, b"\n");
-}
-
-fn print_words(words: &[u32]) {
-    let mut i = 0;
-    while i < words.len() {
-        print_word(words[i]);
-        i += 1;
+fn print_words(rt: &impl Print, words: &[u32]) -> io::Result<()> {
+    for word in words {
+        print!(rt; " {word:08x}")?;
     }
-    end_line();
+    println!(rt)
 }
 
-fn print_refused(number: u32) {
-    io::write_all(STDOUT_FILENO, b"X ");
-    io::print_decimal(STDOUT_FILENO, number as u64);
+fn print_refused(rt: &impl Print, number: u32) -> io::Result<()> {
+    print!(rt; "X {number}")
 }
 
-fn print_shape(shape: Shape) {
-    io::print_decimal(STDOUT_FILENO, shape.channels as u64);
-    io::write_all(STDOUT_FILENO, b" ");
-    io::print_decimal(STDOUT_FILENO, shape.frames as u64);
-    io::write_all(STDOUT_FILENO, b" ");
-    io::print_hex(STDOUT_FILENO, rounding::to_pattern(shape.rate) as u64, 8);
+fn print_shape(rt: &impl Print, shape: Shape) -> io::Result<()> {
+    let channels = shape.channels;
+    let frames = shape.frames;
+    let rate = rounding::to_pattern(shape.rate);
+    print!(rt; "{channels} {frames} {rate:08x}")
 }
 
-fn print_copied(answer: Copied, words: &[u32]) {
+fn print_copied(rt: &impl Print, answer: Copied, words: &[u32]) -> io::Result<()> {
     match answer {
-        Copied::Frames(n) => {
-            io::print_decimal(STDOUT_FILENO, n as u64);
-        }
-        Copied::Refused(number) => print_refused(number),
+        Copied::Frames(n) => print!(rt; "{n}")?,
+        Copied::Refused(number) => print_refused(rt, number)?,
     }
-    print_words(words);
+    print_words(rt, words)
 }
 
-fn print_made(answer: Made, words: &[u32]) {
+fn print_made(rt: &impl Print, answer: Made, words: &[u32]) -> io::Result<()> {
     match answer {
-        Made::Buffer(shape) => print_shape(shape),
-        Made::Refused(number) => print_refused(number),
+        Made::Buffer(shape) => print_shape(rt, shape)?,
+        Made::Refused(number) => print_refused(rt, number)?,
     }
-    print_words(words);
+    print_words(rt, words)
 }
 
-fn print_parted(answer: Parted, first: &[u32], rest: &[u32]) {
+fn print_parted(rt: &impl Print, answer: Parted, first: &[u32], rest: &[u32]) -> io::Result<()> {
     match answer {
         Parted::Buffers(a, b) => {
-            print_shape(a);
-            io::write_all(STDOUT_FILENO, b" ");
-            print_shape(b);
+            print_shape(rt, a)?;
+            print!(rt; " ")?;
+            print_shape(rt, b)?;
         }
-        Parted::Refused(number) => print_refused(number),
+        Parted::Refused(number) => print_refused(rt, number)?,
     }
-    print_words(first);
-    print_words(rest);
+    print_words(rt, first)?;
+    print_words(rt, rest)
 }
 
 // 16,777,216 frames are accepted, one more is not; 24,000 frames at 48,000 last half a second.
-fn run_limits() {
+fn run_limits(rt: &impl Print) -> io::Result<()> {
     let most = buffer::is_valid_shape(1, 16_777_216, 16_777_216);
     let over = buffer::is_valid_shape(1, 16_777_217, 16_777_217);
-    io::print_decimal(STDOUT_FILENO, most as u64);
-    io::print_decimal(STDOUT_FILENO, over as u64);
-    end_line();
+    println!(rt; "{}{}", most as u64, over as u64)?;
     let half = buffer::duration(Shape {
         channels: 1,
         frames: 24000,
         rate: 48000.0,
     });
-    io::print_hex(STDOUT_FILENO, rounding::to_pattern_f64(half), 16);
-    end_line();
+    let bits = rounding::to_pattern_f64(half);
+    println!(rt; "{bits:016x}")
 }
 
 // Two channels of four frames, and slices of three: the offsets 0, 3 and 9, and a refused channel.
-fn run_copies() {
+fn run_copies(rt: &impl Print) -> io::Result<()> {
     let mut samples = [10u32, 11, 12, 13, 20, 21, 22, 23];
     let mut three = [0xdead_beef_u32; 3];
     let whole = buffer::copy_from_channel(2, 4, &samples, &mut three, 0);
-    print_copied(whole, &three);
+    print_copied(rt, whole, &three)?;
     let last = buffer::copy_from_channel_with_offset(2, 4, &samples, &mut three, 1, 3);
-    print_copied(last, &three);
+    print_copied(rt, last, &three)?;
     let past = buffer::copy_from_channel_with_offset(2, 4, &samples, &mut three, 1, 9);
-    print_copied(past, &three);
+    print_copied(rt, past, &three)?;
     let stored = buffer::copy_to_channel_with_offset(2, 4, &mut samples, &three, 1, 2);
-    print_copied(stored, &samples);
+    print_copied(rt, stored, &samples)?;
     let refused = buffer::copy_to_channel(2, 4, &mut samples, &three, 2);
-    print_copied(refused, &samples);
+    print_copied(rt, refused, &samples)
 }
 
 // Extend two channels of two frames by two of one, and split the result again.
-fn run_joins() {
+fn run_joins(rt: &impl Print) -> io::Result<()> {
     let one = Shape {
         channels: 2,
         frames: 2,
@@ -113,7 +98,7 @@ fn run_joins() {
     };
     let mut joined = [0u32; 6];
     let made = reshape::extend(one, &[1, 2, 3, 4], two, &[5, 6], &mut joined);
-    print_made(made, &joined);
+    print_made(rt, made, &joined)?;
     let three = Shape {
         channels: 2,
         frames: 3,
@@ -122,12 +107,12 @@ fn run_joins() {
     let mut first = [0u32; 2];
     let mut rest = [0u32; 4];
     let parted = reshape::split(three, &joined, 1, &mut first, &mut rest);
-    print_parted(parted, &first, &rest);
+    print_parted(rt, parted, &first, &rest)
 }
 
 // Conversions of the frames 0 and 3: to 48,000.09375 relabels, to 48,000.1015625 makes three
 // frames, and from 24,000 to 48,000 makes four.
-fn run_conversions() {
+fn run_conversions(rt: &impl Print) -> io::Result<()> {
     let samples = [0u32, 0x4040_0000];
     let at_48000 = Shape {
         channels: 1,
@@ -143,17 +128,17 @@ fn run_conversions() {
     let mut three = [0u32; 3];
     let mut four = [0u32; 4];
     let near = reshape::convert(at_48000, &samples, 48000.09375, &mut two);
-    print_made(near, &two);
+    print_made(rt, near, &two)?;
     let apart = reshape::convert(at_48000, &samples, 48000.1015625, &mut three);
-    print_made(apart, &three);
+    print_made(rt, apart, &three)?;
     let twice = reshape::convert(at_24000, &samples, 48000.0, &mut four);
-    print_made(twice, &four);
+    print_made(rt, twice, &four)?;
     let single = reshape::convert(at_48000, &samples, 24000.0, &mut four);
-    print_made(single, &four);
+    print_made(rt, single, &four)
 }
 
 // Answers that need no samples: the length is worked in f64, and each refusal of a shape's call.
-fn run_shapes() {
+fn run_shapes(rt: &impl Print) -> io::Result<()> {
     let none = [0u32; 0];
     let most = Shape {
         channels: 1,
@@ -171,25 +156,25 @@ fn run_shapes() {
         rate: 44100.0,
     };
     let unlike = reshape::extended_shape(most, 16_777_216, other, 16_777_216);
-    print_made(unlike, &none);
+    print_made(rt, unlike, &none)?;
     let long = reshape::extended_shape(most, 16_777_216, most, 16_777_216);
-    print_made(long, &none);
+    print_made(rt, long, &none)?;
     let longer = reshape::converted_shape(most, 16_777_216, 768000.0);
-    print_made(longer, &none);
+    print_made(rt, longer, &none)?;
     let faster = reshape::converted_shape(most, 16_777_216, 768000.0625);
-    print_made(faster, &none);
+    print_made(rt, faster, &none)?;
     let counted = reshape::converted_shape(odd, 147, 48000.0);
-    print_made(counted, &none);
+    print_made(rt, counted, &none)?;
     let short = reshape::converted_shape(odd, 146, 48000.0);
-    print_made(short, &none);
+    print_made(rt, short, &none)?;
     let past = reshape::split_shapes(odd, 147, 148);
-    print_parted(past, &none, &none);
+    print_parted(rt, past, &none, &none)
 }
 
-fn main() {
-    run_limits();
-    run_shapes();
-    run_copies();
-    run_joins();
-    run_conversions();
+fn main(rt: HostRuntime) -> io::Result<()> {
+    run_limits(&rt)?;
+    run_shapes(&rt)?;
+    run_copies(&rt)?;
+    run_joins(&rt)?;
+    run_conversions(&rt)
 }

@@ -3,6 +3,7 @@ ghost use Rattle.std.specs.Prelude.{◌+◌, ◌-◌, ◌*◌, ◌<◌, ◌≤�
 
 use super::print::{put_line, put_refusal};
 use super::scan::{Known, Numbers, bits_of, no_numbers, read, smaller, value, word_end};
+use std::io;
 
 // The kinds of order, in the order of the table in `order_of`: those that tell the player something,
 // the blocks, the previews, and the others that leave the player alone. A pattern names a kind by its
@@ -76,7 +77,7 @@ pub const OUTPUT_MAX: usize = 65_536;
 const NO_SIZE: usize = 2_000_000_000;
 
 // An order, the words that it waits for, and how many of them are there.
-#[derive(Drop)]
+#[derive(Clone, Copy)]
 pub struct Order {
     pub kind: usize,
     pub wanted: usize,
@@ -206,21 +207,21 @@ pub fn due(order: Order) -> usize {
 }
 
 // A new order. A comment is printed, and asks for nothing.
-fn begun(line: &[u8], made: bool, room: usize) -> Order {
+fn begun(rt: &impl Print, line: &[u8], made: bool, room: usize) -> io::Result<Order> {
     if word_end(line, 0, b'#') > 0 {
-        put_line(line);
-        return nothing();
+        put_line(rt, line)?;
+        return Ok(nothing());
     }
     let known = order_of(line);
     let n = known.n;
     let kind = admitted(known.kind, n, made, room);
     let wanted = wanted(kind, n);
-    Order {
+    Ok(Order {
         kind,
         wanted,
         got: 0,
         n,
-    }
+    })
 }
 
 // Stores the words of a `W` line into `room`, and answers how many; 0 where the line isn't `W` and
@@ -248,24 +249,31 @@ fn stored(line: &[u8], room: &mut [u32]) -> usize {
 }
 
 // `X 0` for a call that is given up.
-fn put_dropped(order: Order) {
+fn put_dropped(rt: &impl Print, order: Order) -> io::Result<()> {
     if order.got < order.wanted {
-        put_refusal(0);
+        put_refusal(rt, 0)?;
     }
+    Ok(())
 }
 
 // The order after a line: the waiting one with more words, or a new one.
-pub fn heard(order: Order, line: &[u8], made: bool, words: &mut [u32]) -> Order {
+pub fn heard(
+    rt: &impl Print,
+    order: Order,
+    line: &[u8],
+    made: bool,
+    words: &mut [u32],
+) -> io::Result<Order> {
     let to = smaller(order.wanted, words.len());
     let from = smaller(order.got, to);
     let count = stored(line, &mut words[from..to]);
     if count == 0 {
-        put_dropped(order);
-        return begun(line, made, words.len());
+        put_dropped(rt, order)?;
+        return begun(rt, line, made, words.len());
     }
     let mut next = order;
     next.got = from + smaller(count, to - from);
-    next
+    Ok(next)
 }
 
 // At the start there is none.

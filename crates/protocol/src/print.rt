@@ -3,12 +3,12 @@ ghost use Rattle.std.specs.Prelude.{◌+◌, ◌<◌, ◌≤◌, length};
 
 use super::scan::{base_of, numbers_in, smaller};
 use buffer::Shape;
-use libc::STDOUT_FILENO;
+use std::io;
 
 // A line as it is.
-pub fn put_line(line: &[u8]) {
-    io::write_all(STDOUT_FILENO, line);
-    io::write_all(STDOUT_FILENO, b"\n");
+pub fn put_line(rt: &impl Print, line: &[u8]) -> io::Result<()> {
+    rt.write_all(line)?;
+    rt.write_all(b"\n")
 }
 
 // The digit of a number, or the byte that stands for itself.
@@ -72,15 +72,15 @@ fn filled(text: &mut [u8], form: &[u8], values: &[usize]) -> usize
 }
 
 // Values by a form. The longest, that of `Z`, has 151 bytes.
-pub fn put_form(form: &[u8], values: &[usize]) {
+pub fn put_form(rt: &impl Print, form: &[u8], values: &[usize]) -> io::Result<()> {
     let mut text = [0u8; 256];
     let at = filled(&mut text, form, values);
-    io::write_all(STDOUT_FILENO, &text[at..]);
+    rt.write_all(&text[at..])
 }
 
 // A refusal.
-pub fn put_refusal(number: u32) {
-    put_form(b"X d\n", &[number as usize]);
+pub fn put_refusal(rt: &impl Print, number: u32) -> io::Result<()> {
+    put_form(rt, b"X d\n", &[number as usize])
 }
 
 // Where the run of equal words from `first` on ends.
@@ -99,38 +99,46 @@ fn run_end(words: &[u32], first: usize) -> usize
     i
 }
 
-fn put_run(channel: usize, first: usize, count: usize, bits: u32) {
+fn put_run(
+    rt: &impl Print,
+    channel: usize,
+    first: usize,
+    count: usize,
+    bits: u32,
+) -> io::Result<()> {
     let values = [channel, first, count, bits as usize];
-    put_form(b"d d d w\n", &values)
+    put_form(rt, b"d d d w\n", &values)
 }
 
 // The runs of a channel.
-fn put_runs(channel: usize, words: &[u32]) {
+fn put_runs(rt: &impl Print, channel: usize, words: &[u32]) -> io::Result<()> {
     let mut first = 0;
     while first < words.len() {
         let end = run_end(words, first);
-        put_run(channel, first, end - first, words[first]);
+        put_run(rt, channel, first, end - first, words[first])?;
         first = end;
     }
+    Ok(())
 }
 
 // The runs of `count` channels of `frames` words, one channel after another.
-pub fn put_channels(count: usize, frames: usize, words: &[u32]) {
+pub fn put_channels(rt: &impl Print, count: usize, frames: usize, words: &[u32]) -> io::Result<()> {
     let mut from = 0;
     let mut c = 0;
     while c < count {
         let to = from + smaller(frames, words.len() - from);
-        put_runs(c, &words[from..to]);
+        put_runs(rt, c, &words[from..to])?;
         from = to;
         c += 1;
     }
+    Ok(())
 }
 
 // A letter, the shape, and the runs of the buffer's channels.
-pub fn put_buffer(letter: u8, shape: Shape, words: &[u32]) {
+pub fn put_buffer(rt: &impl Print, letter: u8, shape: Shape, words: &[u32]) -> io::Result<()> {
     let rate = rounding::to_pattern(shape.rate) as usize;
     let values = [shape.channels, shape.frames, rate];
     let form = [letter, b' ', b'd', b' ', b'd', b' ', b'w', b'\n'];
-    put_form(&form, &values);
-    put_channels(shape.channels, shape.frames, words);
+    put_form(rt, &form, &values)?;
+    put_channels(rt, shape.channels, shape.frames, words)
 }

@@ -1,9 +1,12 @@
 // Runs recorded vectors of `rounding` and `fused`: what a processor answered (tools/rounding_vectors makes them).
 // A line of standard input has 70 bytes: the operation, a hex digit; three operands and the answer, 16
 // hex digits each; a space before each, and the line's end.
+#![tactic(auto)]
+
 ghost use Rattle.std.specs.Prelude.{◌+◌, ◌<◌, ◌≤◌};
 
-use libc::{STDIN_FILENO, STDOUT_FILENO};
+use std::io;
+use std::io::{ErrorKind, Read};
 
 // The value of an upper-case hex digit.
 fn digit(c: u8) -> u8
@@ -69,58 +72,74 @@ fn computed(operation: usize, a: u64, b: u64, c: u64) -> u64 {
 fn count(tally: &mut [u64; 16], i: usize)
     requires { i < 16 }
 {
-    tally[i] = std::num::wrapping_add_u64(tally[i], 1);
+    tally[i] = tally[i].wrapping_add(1);
+}
+
+// Reads a line; false where the input ends before the line does.
+fn read_line(input: &mut impl Read, line: &mut [u8; 70]) -> io::Result<bool> {
+    match input.read_exact(line) {
+        Ok(()) => Ok(true),
+        Err(e) if e.kind() == ErrorKind::UnexpectedEof => Ok(false),
+        Err(e) => Err(e),
+    }
 }
 
 // Reads a line and runs it, and writes it out where the answer differs.
-fn step(runs: &mut [u64; 16], differ: &mut [u64; 16]) -> bool {
+fn step(
+    rt: &impl Print,
+    input: &mut impl Read,
+    runs: &mut [u64; 16],
+    differ: &mut [u64; 16],
+) -> io::Result<bool> {
     let mut line = [0u8; 70];
-    let got = io::read_full(STDIN_FILENO, &mut line);
-    if got < 70 {
-        return false;
+    if !read_line(input, &mut line)? {
+        return Ok(false);
     }
     let i = operation(&line);
     count(runs, i);
     if computed(i, word(&line, 2), word(&line, 19), word(&line, 36)) != word(&line, 53) {
         count(differ, i);
-        io::write_all(STDOUT_FILENO, &line);
+        rt.write_all(&line)?;
     }
-    true
+    Ok(true)
 }
 
-// All the lines. Nothing says that the input ends, so the loop counts its turns down.
-fn run(runs: &mut [u64; 16], differ: &mut [u64; 16]) {
-    let mut turns = u64::MAX;
-    while turns > 0 && step(runs, differ) {
-        turns -= 1;
+// All the lines. Nothing says that the input ends, so the loop counts its turns.
+fn run(
+    rt: &impl Print,
+    input: &mut impl Read,
+    runs: &mut [u64; 16],
+    differ: &mut [u64; 16],
+) -> io::Result<()> {
+    for _ in 0..u64::MAX {
+        if !step(rt, input, runs, differ)? {
+            break;
+        }
     }
+    Ok(())
 }
 
-fn report(name: &[u8], runs: u64, differ: u64) {
-    io::write_all(STDOUT_FILENO, name);
-    io::print_decimal(STDOUT_FILENO, runs);
-    io::write_all(STDOUT_FILENO, b" vectors, ");
-    io::print_decimal(STDOUT_FILENO, differ);
-    io::write_all(STDOUT_FILENO, b" differ\n");
+fn report(rt: &impl Print, name: &str, runs: u64, differ: u64) -> io::Result<()> {
+    println!(rt; "{name} {runs} vectors, {differ} differ")
 }
 
-fn report_all(runs: &[u64; 16], differ: &[u64; 16]) {
-    report(b"fma ", runs[0], differ[0]);
-    report(b"narrow ", runs[1], differ[1]);
-    report(b"floor ", runs[2], differ[2]);
-    report(b"ceil ", runs[3], differ[3]);
-    report(b"round_away ", runs[4], differ[4]);
-    report(b"truncate ", runs[5], differ[5]);
-    report(b"widen ", runs[6], differ[6]);
-    report(b"near ", runs[7], differ[7]);
-    report(b"rem_euclid ", runs[8], differ[8]);
-    report(b"float_eq ", runs[9], differ[9]);
-    report(b"fma_narrow ", runs[10], differ[10]);
+fn report_all(rt: &impl Print, runs: &[u64; 16], differ: &[u64; 16]) -> io::Result<()> {
+    report(rt, "fma", runs[0], differ[0])?;
+    report(rt, "narrow", runs[1], differ[1])?;
+    report(rt, "floor", runs[2], differ[2])?;
+    report(rt, "ceil", runs[3], differ[3])?;
+    report(rt, "round_away", runs[4], differ[4])?;
+    report(rt, "truncate", runs[5], differ[5])?;
+    report(rt, "widen", runs[6], differ[6])?;
+    report(rt, "near", runs[7], differ[7])?;
+    report(rt, "rem_euclid", runs[8], differ[8])?;
+    report(rt, "float_eq", runs[9], differ[9])?;
+    report(rt, "fma_narrow", runs[10], differ[10])
 }
 
-fn main() {
+fn main(rt: HostRuntime) -> io::Result<()> {
     let mut runs = [0u64; 16];
     let mut differ = [0u64; 16];
-    run(&mut runs, &mut differ);
-    report_all(&runs, &differ);
+    run(&rt, &mut rt.stdin(), &mut runs, &mut differ)?;
+    report_all(&rt, &runs, &differ)
 }
