@@ -1,6 +1,6 @@
 use mathlib.Core.Path.{refl, ap, ◌∙◌}
 use mathlib.Core.Bool.{true}
-use Prim.Native.Nat.{◌+◌, ◌-◌}
+use Prim.Native.Nat.{◌+◌}
 use native.Mathlib.Omega.{arith}
 use Rattle.aligned.specs.Aligned.{next_frame, last_wrap}
 use Rattle.aligned.proofs.Turning.{played_below, next_more, wrap_more}

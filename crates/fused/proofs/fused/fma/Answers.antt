@@ -117,6 +117,6 @@ pub returns : goal.returns
 returns c =
     irregular binary64 c.args.a c.args.b c.args.c
     (elim c.if-is_regular.branch [
-      then-is_regular+else-is_regular-2 w ↦ inr (sym w.is_regular-then-is_regular.ensures ∙ w.if-is_regular-2.false)
-    | else-is_regular w ↦ inl (sym c.is_regular.ensures ∙ w.if-is_regular.false)
+      | then-is_regular+else-is_regular-2 w ↦ inr (sym w.is_regular-then-is_regular.ensures ∙ w.if-is_regular-2.false)
+      | else-is_regular w ↦ inl (sym c.is_regular.ensures ∙ w.if-is_regular.false)
     ])
