@@ -11,7 +11,6 @@ use Rattle.buffer.specs.Refusals.{LENGTH, TIME, CENTS}
 use Rattle.detune.specs.Detune.{bad_cents, factor_of}
 use Rattle.player.specs.Block.{checks, refusal, bad_block_time, rendered, output}
 use Rattle.player.specs.declared.Player.{Player}
-use Rattle.player.specs.declared.Rendered.{Rendered}
 use Rattle.player.specs.declared.Rendered.TheVariants.{Refused}
 use Rattle.cents.specs.Cents.{cents_refusal, rendered_cents, output_cents}
 

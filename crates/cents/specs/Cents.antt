@@ -1,6 +1,6 @@
 -- The block call in cents (document 02, 2.1: 'a block call that takes cents in place of the factor'). Definitions only.
 -- It is the block call with the factor of the cents, and its checks are the block's with 16 in its place (`checks`).
-use Rattle.std.specs.Prelude.{Bool, cond, List, ℕ, eqb, ℤ, length, Float}
+use Rattle.std.specs.Prelude.{cond, List, ℕ, eqb, ℤ, length, Float}
 use Rattle.buffer.specs.Refusals.{CENTS}
 use Rattle.seconds.specs.Seconds.{one}
 use Rattle.detune.specs.Detune.{bad_cents, factor_of}

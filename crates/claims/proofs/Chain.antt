@@ -1,11 +1,11 @@
 -- The accepted calls of a list follow one another: each gets the player that the one before it left. Assumes nothing.
-use mathlib.Core.Path.{◌≡◌, refl, sym, ap, ◌∙◌, subst}
-use mathlib.Core.Bool.{Bool, true, false, ◌&&◌, cond}
-use mathlib.Core.List.{List, [], ◌∷◌, ◌++◌}
+use mathlib.Core.Path.{◌≡◌, refl, sym, ap, subst}
+use mathlib.Core.Bool.{Bool, true, false, cond}
+use mathlib.Core.List.{List, [], ◌∷◌}
 use lib.Dec.{T}
 use lib.Ieee.Fits.{and_l, and_r}
 use Rattle.player.specs.declared.Player.{Player}
-use Rattle.claims.specs.Calls.{Call, buffer, message, block, typed, all_typed, accepts, next, Event, accepted, after, after_all, is_block_call, opening, playing}
+use Rattle.claims.specs.Calls.{Call, typed, all_typed, accepts, next, Event, accepted, after, after_all, is_block_call, opening, playing}
 
 pub record Link (p : Player) (e : Event) : Type 0 where
   pub got : e.before ≡ p

@@ -1,30 +1,29 @@
 -- From the state before a block to what the long_run_lem statement says of the block. Assumes nothing.
 use mathlib.Core.Path.{◌≡◌, refl, sym, ap, ap₂, ◌∙◌, subst}
-use mathlib.Core.Logic.{◌⊎◌, inl, inr, ⊎_elim}
-use mathlib.Core.Bool.{Bool, true, false, not, ◌&&◌, ◌||◌, cond, true≢false, false≢true}
+use mathlib.Core.Logic.{⊎_elim}
+use mathlib.Core.Bool.{Bool, true, false, cond, true≢false}
 use mathlib.Core.List.{List, [], ◌∷◌, ◌++◌}
-use Prim.Native.Nat.{ℕ, suc, ◌+◌, ◌*◌, ◌/◌, ◌%◌, ◌^◌, ◌≤◌, ◌<◌}
+use Prim.Native.Nat.{ℕ, suc, ◌+◌, ◌*◌, ◌^◌, ◌≤◌, ◌<◌}
 use native.Mathlib.Nat.{le_trans, add-zero}
 use native.Mathlib.Omega.{arith}
 use borrow.Author.Tests.{le-ltb}
-use lib.Dec.{T, ltb, lit≤}
+use lib.Dec.{T, lit≤}
 use lib.ListN.{length, get_or}
-use lib.Ieee.{Float, binary64, lt, le, eq, mul}
+use lib.Ieee.{Float, lt, le, eq}
 use lib.Ieee.Bits.{is_true}
 use lib.Ieee.Exact.{HasValue}
-use Rattle.seconds.specs.Seconds.{never, one, block_end, instant}
+use Rattle.seconds.specs.Seconds.{one, block_end, instant}
 use Rattle.buffer.specs.Channels.{channel}
-use Rattle.player.specs.Block.{Plan, plan}
 use Rattle.player.specs.declared.Player.{Player}
 use Rattle.claims.specs.Calls.{Call, block, next, Event, after, time_of, channels_by, output_by, channels_of, sample_of, is_ended, Clip}
-use Rattle.claims.specs.LongRun.{OnlyBlocks, is_before, is_at, reaches, frame_bits, Plays, exact_frames, Reports, blocks_of, Stands, Over, end_of, NoneAt, Block}
+use Rattle.claims.specs.LongRun.{OnlyBlocks, is_before, is_at, reaches, frame_bits, Plays, exact_frames, blocks_of, Stands, Over, end_of, NoneAt, Block}
 use Rattle.claims.proofs.Order as order
 use Rattle.claims.proofs.Laws.{Time, end_under, instant_before}
 use Rattle.claims.proofs.Position.{reports}
-use Rattle.claims.proofs.Step.{Place, few_steps, exact_plain}
+use Rattle.claims.proofs.Step.{few_steps, exact_plain}
 use Rattle.claims.proofs.States.{Setup, State, standing, Alive, plan_aligned, plan_between, aligned_channels, aligned_sample_lem, aligned_bits, between_channels, between_zero}
-use Rattle.claims.proofs.Chain.{Link, Chain}
-use Rattle.claims.proofs.Events.{Plain, plain, Taken, Gave, gave}
+use Rattle.claims.proofs.Chain.{Chain}
+use Rattle.claims.proofs.Events.{Plain, plain, Taken, gave}
 use Rattle.claims.proofs.Run.{stop_of, Upward, Passed, Inv, alive, stopped, finished, Stepped, later_end, ended_gives, taken_of, Starts, Hits, Reached, on_block, reach, over_all}
 
 -- the clip of a setup

@@ -1,8 +1,7 @@
 -- An accepted block of a player from its first block on: what its acceptance says, and what it gave. Assumes nothing.
-use mathlib.Core.Path.{◌≡◌, refl, sym, ap, ap₂, ◌∙◌, subst}
-use mathlib.Core.Logic.{◌⊎◌, inl, inr, ⊎_elim}
+use mathlib.Core.Path.{◌≡◌, refl, ap, ap₂, ◌∙◌}
 use mathlib.Core.Bool.{Bool, true, false, not, ◌&&◌, ◌||◌, cond, true≢false, false≢true}
-use mathlib.Core.List.{List, [], ◌∷◌}
+use mathlib.Core.List.{List}
 use Prim.Native.Nat.{ℕ, ◌+◌, ◌*◌, ◌≤◌, ◌<◌}
 use native.Mathlib.Omega.{arith}
 use borrow.Author.Tests.{eqb-true, not-false}
@@ -14,10 +13,9 @@ use lib.Ieee.Scale.{finite}
 use Rattle.seconds.specs.Seconds.{none, one}
 use Rattle.buffer.specs.Channels.{channel}
 use Rattle.player.specs.Block.{Plan, plan, latest, bad_block_time, bad_rate, bad_samples, refusal, rendered, output, written, report_of}
-use Rattle.player.specs.declared.Player.{Player}
 use Rattle.player.specs.declared.Rendered.{Rendered}
 use Rattle.player.specs.declared.Rendered.TheVariants.{Block, Refused}
-use Rattle.claims.specs.Calls.{Call, buffer, message, block, is_block, moved, answered, accepts, next, typed, Event, after, time_of, channels_by, output_by, channels_of, sample_of, is_ended}
+use Rattle.claims.specs.Calls.{Call, buffer, message, block, is_block, moved, answered, accepts, next, typed, channels_by, output_by}
 use Rattle.claims.specs.LongRun.{PlainBlock}
 use Rattle.claims.proofs.Laws.{Time}
 use Rattle.claims.proofs.States.{Setup, State, standing}

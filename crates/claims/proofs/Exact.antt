@@ -1,11 +1,11 @@
 -- The exact position, block by block: looped, it goes on by n frames, or starts over as the block's last wrap says. Assumes nothing.
-use mathlib.Core.Path.{◌≡◌, refl, sym, ap, ◌∙◌, subst}
+use mathlib.Core.Path.{◌≡◌, refl, sym, ap, ◌∙◌}
 use mathlib.Core.Logic.{◌⊎◌, inl, inr, ⊎_elim}
 use mathlib.Core.Bool.{Bool, true, false, ◌&&◌, ◌||◌, cond}
 use Prim.Native.Nat.{ℕ, zero, suc, ◌+◌, ◌*◌, ◌%◌, ◌≤◌, ◌<◌}
-use native.Mathlib.Nat.{le_of_lt, le_of_eq, lt_of_le_of_lt, lt_of_lt_of_le, eq-or-lt_of_le, mod-lt, mod_self, mod-eq_of_lt, mod-mod, mod-add-mod, add-mod_right, mul-suc, mul-mod_right, mul-zero, zero-mod}
+use native.Mathlib.Nat.{le_of_lt, le_of_eq, lt_of_le_of_lt, eq-or-lt_of_le, mod-lt, mod_self, mod-eq_of_lt, mod-add-mod, mul-suc, mul-mod_right, mul-zero, zero-mod}
 use native.Mathlib.Omega.{arith}
-use borrow.Author.Tests.{ltb-true, ltb-false, lt-ltb, le-ltb, eq-eqb, ne_eqb, eqb-true, eqb-false}
+use borrow.Author.Tests.{ltb-true, ltb-false, le-ltb, eq-eqb, ne_eqb, eqb-true}
 use lib.Dec.{eqb, ltb}
 use Rattle.claims.specs.LongRun.{exact_frames}
 

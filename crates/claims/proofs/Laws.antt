@@ -1,17 +1,13 @@
 -- The float laws at a block of 128 samples, for one rate, as the steps of the long_run_lem proof cite them. Assumes nothing.
-use mathlib.Core.Path.{◌≡◌, sym, ap, ◌∙◌}
-use mathlib.Core.Bool.{Bool, true, false}
+use mathlib.Core.Path.{◌≡◌}
+use mathlib.Core.Bool.{true, false}
 use Prim.Native.Nat.{ℕ, suc, ◌+◌, ◌*◌, ◌^◌, ◌≤◌, ◌<◌}
 use lib.Dec.{T, lit≤}
-use lib.Ieee.{Float, binary64, add, mul, div, rem, lt, le, eq, ne, fits}
+use lib.Ieee.{Float, binary64, add, mul, lt, le, ne, fits}
 use lib.Ieee.Exact.{HasValue}
 use lib.Ieee.Scale.{finite}
-use Rattle.buffer.specs.Limits.{duration}
-use Rattle.rounding.specs.Rounding.{whole}
 use Rattle.seconds.specs.Seconds.{none, never, one, block_seconds, instant, block_end}
-use Rattle.aligned.specs.Aligned.{first_frame}
 use Rattle.player.specs.Block.{latest}
-use Rattle.claims.specs.LongRun.{Reports}
 use Rattle.claims.proofs.Order as order
 use Rattle.claims.proofs.Position as position
 use Rattle.claims.proofs.Position.{Frames, Elapsed}

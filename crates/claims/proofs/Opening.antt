@@ -1,17 +1,16 @@
 -- The player before its first block, by what it has received: a clip, a start, a stop, a loop switch. Assumes nothing.
 use mathlib.Core.Path.{◌≡◌, refl, sym, ap, ap₂, ◌∙◌, subst}
-use mathlib.Core.Bool.{Bool, true, false, not, ◌&&◌, ◌||◌, cond, true≢false, false≢true}
+use mathlib.Core.Bool.{Bool, true, false, not, ◌||◌, cond, true≢false, false≢true}
 use mathlib.Core.List.{List, [], ◌∷◌, ◌++◌}
-use Prim.Native.Nat.{ℕ, zero, suc, ◌≤◌, ◌<◌}
+use Prim.Native.Nat.{ℕ, zero, suc, ◌≤◌}
 use native.Mathlib.Omega.{arith}
-use borrow.Author.Tests.{eqb-false, not-false}
+use borrow.Author.Tests.{eqb-false}
 use lib.Dec.{T, eqb}
 use lib.ListN.{length}
 use lib.Ieee.{Float, binary32, of_bits, fits, lt, le, eq}
-use lib.Ieee.Bits.{is_true}
 use Rattle.buffer.specs.Limits.{valid_rate, valid_shape, duration, Valid, valid}
 use Rattle.seconds.specs.Seconds.{context, in_clip, none, never}
-use Rattle.player.specs.Record.{shape_of, loop_of, render_of, fresh, told, given}
+use Rattle.player.specs.Record.{shape_of, loop_of, render_of, fresh, given}
 use Rattle.player.specs.Messages.{clamped_start, clamped_end, clamped, bad_time, on_start, on_stop, on_loop, handled, buffered}
 use Rattle.buffer.specs.declared.Shape.{Shape}
 use Rattle.player.specs.declared.Player.{Player}
@@ -19,8 +18,8 @@ use Rattle.player.specs.declared.ControlMessage.{ControlMessage}
 use Rattle.player.specs.declared.ControlMessage.TheVariants.{Start, Stop, Loop, LoopStart, LoopEnd}
 use Rattle.player.specs.declared.Handled.{Handled}
 use Rattle.player.specs.declared.Handled.TheVariants.{Done, Refused}
-use Rattle.claims.specs.Calls.{Call, buffer, message, block, is_done, left, accepts, next, typed, Event, after, after_all, is_block_call, Clip, Started, clip_in, start_in, stop_in, switch_in, point_in, gathered}
-use Rattle.claims.proofs.Chain.{Link, Chain, NoBlocks}
+use Rattle.claims.specs.Calls.{Call, buffer, message, block, is_done, left, accepts, next, typed, Event, after, after_all, is_block_call, point_in, gathered}
+use Rattle.claims.proofs.Chain.{Chain, NoBlocks}
 
 -- what was received so far
 pub record Received : Type 0 where

@@ -1,28 +1,24 @@
 -- All accepted blocks of a list: the state before each of them, and what each gave. Assumes nothing.
 use mathlib.Core.Path.{◌≡◌, refl, sym, ap, ap₂, ◌∙◌, subst}
-use mathlib.Core.Logic.{◌⊎◌, inl, inr, ⊎_elim}
-use mathlib.Core.Bool.{Bool, true, false, not, ◌&&◌, ◌||◌, cond, true≢false, false≢true}
+use mathlib.Core.Logic.{⊎_elim}
+use mathlib.Core.Bool.{Bool, true, false, ◌&&◌, true≢false}
 use mathlib.Core.List.{List, [], ◌∷◌, ◌++◌}
-use Prim.Native.Nat.{ℕ, suc, ◌+◌, ◌*◌, ◌/◌, ◌^◌, ◌≤◌, ◌<◌}
-use native.Mathlib.Nat.{le_trans, le_of_lt, zero-add}
+use Prim.Native.Nat.{ℕ, suc, ◌+◌, ◌*◌, ◌^◌, ◌≤◌, ◌<◌}
+use native.Mathlib.Nat.{zero-add}
 use native.Mathlib.Omega.{arith}
-use borrow.Author.Tests.{le-ltb}
-use lib.Dec.{T, ltb, lit≤}
+use lib.Dec.{T, lit≤}
 use lib.ListN.{length, get_or}
-use lib.Ieee.{Float, binary64, lt, le, eq, mul}
+use lib.Ieee.{Float, lt, le}
 use lib.Ieee.Exact.{HasValue}
-use Rattle.seconds.specs.Seconds.{never, one, block_end, instant}
-use Rattle.buffer.specs.Channels.{channel}
-use Rattle.player.specs.Block.{Plan, plan, silent, aligned_plan, sub_sample_plan}
+use Rattle.seconds.specs.Seconds.{never, one, block_end}
 use Rattle.player.specs.declared.Player.{Player}
-use Rattle.claims.specs.Calls.{Call, block, accepts, next, typed, Event, after, time_of, channels_by, output_by, channels_of, sample_of, is_ended, Clip}
-use Rattle.claims.specs.LongRun.{PlainBlock, OnlyBlocks, is_before, is_at, reaches, frame_bits, Plays, exact_frames, Reports, blocks_of, Stands, Over, end_of, NoneAt, Block}
+use Rattle.claims.specs.Calls.{Call, block, accepts, next, typed, Event, after, time_of, channels_by, output_by, channels_of, sample_of, is_ended}
+use Rattle.claims.specs.LongRun.{OnlyBlocks, Over, end_of}
 use Rattle.claims.proofs.Order as order
 use Rattle.claims.proofs.Laws.{Time, end_mono}
-use Rattle.claims.proofs.Step.{Place, few_steps, exact_plain}
-use Rattle.claims.proofs.States.{Setup, State, standing, silenced, Alive, plan_ended, start_by, plan_aligned, plan_between, carried, aligned_player, aligned_channels, aligned_sample_lem, aligned_bits, aligned_next, aligned_stops, cut_short, between_player, between_channels, between_stops, between_zero}
+use Rattle.claims.proofs.States.{Setup, State, standing, silenced, Alive, plan_ended, start_by, plan_aligned, plan_between, carried, aligned_player, aligned_next, aligned_stops, cut_short, between_player, between_stops}
 use Rattle.claims.proofs.Chain.{Link, Chain}
-use Rattle.claims.proofs.Events.{Plain, plain, Taken, taken, Gave, gave}
+use Rattle.claims.proofs.Events.{Plain, plain, Taken, taken, gave}
 
 -- ---- the stop that a player has: never, where none was sent
 abbrev pub stop_of : List Float → Float

@@ -1,19 +1,19 @@
 -- The player from its first block on, by the few things that a block moves, and the plan of a block for it. Assumes nothing.
 use mathlib.Core.Path.{◌≡◌, refl, sym, ap, ap₂, ◌∙◌, subst}
 use mathlib.Core.Logic.{◌⊎◌, inl, inr, ⊎_elim}
-use mathlib.Core.Bool.{Bool, true, false, not, ◌&&◌, ◌||◌, cond, true≢false, false≢true}
+use mathlib.Core.Bool.{Bool, true, false, not, ◌&&◌, ◌||◌, cond, true≢false}
 use mathlib.Core.List.{List}
 use Prim.Native.Nat.{ℕ, suc, ◌+◌, ◌*◌, ◌%◌, ◌^◌, ◌≤◌, ◌<◌}
-use native.Mathlib.Nat.{le_trans, le_of_lt}
+use native.Mathlib.Nat.{le_of_lt}
 use native.Mathlib.Omega.{arith}
 use borrow.Author.Tests.{ltb-true, ltb-false}
-use lib.Dec.{T, ltb}
+use lib.Dec.{ltb}
 use lib.ListN.{get_or}
-use lib.Ieee.{Float, binary64, add, mul, div, lt, le, eq, ne}
+use lib.Ieee.{Float, binary64, add, mul, lt, le, eq}
 use lib.Ieee.Exact.{HasValue}
 use Rattle.buffer.specs.Limits.{duration}
 use Rattle.seconds.specs.Seconds.{context, in_clip, none, never, one, block_seconds, block_end, instant}
-use Rattle.player.specs.Record.{shape_of, loop_of, render_of, moved}
+use Rattle.player.specs.Record.{shape_of, loop_of, render_of}
 use Rattle.aligned.specs.Aligned.{first_frame, ends_within, aligned_sample, last_wrap, aligned_position}
 use Rattle.sub_sample.specs.SubSample.{head_at, is_idle, info_of_sample}
 use Rattle.interpolated.specs.Interpolated.{sample_of}
@@ -23,10 +23,10 @@ use Rattle.player.specs.Block.{Plan, silent, idle, start_at, is_aligned, has_end
 use Rattle.player.specs.declared.Player.{Player}
 use Rattle.claims.specs.LongRun.{exact_frames, frame_bits}
 use Rattle.claims.proofs.Order as order
-use Rattle.claims.proofs.Position.{Frames, Elapsed, frames_duration, ratio_one, clip_itself, never_far, elapsed_under_never}
+use Rattle.claims.proofs.Position.{Elapsed, frames_duration, ratio_one, clip_itself, never_far, elapsed_under_never}
 use Rattle.claims.proofs.Exact.{exact_le}
-use Rattle.claims.proofs.Laws.{Time, Below, closed, below, end_later, elapsed_more}
-use Rattle.claims.proofs.Step.{Place, few_steps, on, position_on, plays_looped, plays_plain, or-zero, past_clip, before_clip, exact_plain}
+use Rattle.claims.proofs.Laws.{Time, closed, below, end_later, elapsed_more}
+use Rattle.claims.proofs.Step.{Place, on, position_on, plays_looped, plays_plain, or-zero, exact_plain}
 
 -- what stays
 pub record Setup : Type 0 where

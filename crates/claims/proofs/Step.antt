@@ -1,25 +1,25 @@
 -- One aligned block: where the position goes, and which frames it plays. Assumes nothing.
-use mathlib.Core.Path.{◌≡◌, refl, sym, ap, ap₂, ◌∙◌, subst}
+use mathlib.Core.Path.{◌≡◌, refl, sym, ap, ◌∙◌, subst}
 use mathlib.Core.Logic.{◌⊎◌, inl, inr}
-use mathlib.Core.Bool.{Bool, true, false, not, ◌&&◌, ◌||◌, cond, true≢false, false≢true}
+use mathlib.Core.Bool.{Bool, true, false, ◌&&◌, cond, true≢false}
 use mathlib.Core.List.{List}
 use Prim.Native.Nat.{ℕ, zero, suc, ◌+◌, ◌-◌, ◌*◌, ◌%◌, ◌^◌, ◌≤◌, ◌<◌}
-use native.Mathlib.Nat.{le_trans, le_of_eq, le_of_lt, lt_of_lt_of_le, eq-or-lt_of_le, mod_self, mod-eq_of_lt, mod-add-mod, mul-suc, mul-zero}
+use native.Mathlib.Nat.{le_trans, le_of_eq, eq-or-lt_of_le, mod_self, mod-eq_of_lt, mod-add-mod, mul-suc, mul-zero}
 use native.Mathlib.Omega.{arith}
-use borrow.Author.Tests.{ltb-true, ltb-false, lt-ltb, le-ltb}
+use borrow.Author.Tests.{ltb-true, ltb-false}
 use lib.Dec.{ltb, lit≤}
-use lib.ListN.{get_or, length, take, drop, length-take, get_or-eq_default}
-use lib.Ieee.{Float, binary64, add, div, rem, lt}
+use lib.ListN.{get_or, take, drop, length-take, get_or-eq_default}
+use lib.Ieee.{Float, binary64, add, div, rem}
 use lib.Ieee.Exact.{HasValue}
 use Rattle.buffer.specs.Limits.{duration}
 use Rattle.rounding.specs.Rounding.{whole}
-use Rattle.seconds.specs.Seconds.{block_seconds, none}
+use Rattle.seconds.specs.Seconds.{block_seconds}
 use Rattle.aligned.specs.Aligned.{first_frame, ends_within, played, next_frame, aligned_sample, last_wrap, aligned_position}
 use Rattle.aligned.specs.declared.Wrap.{Wrap}
 use Rattle.aligned.specs.declared.Wrap.TheVariants.{Never, At}
 use Rattle.claims.specs.LongRun.{exact_frames}
-use Rattle.claims.proofs.Tape.{straight, never_wraps, plays_straight, place, plays_turning, Wraps, within, over, wraps}
-use Rattle.claims.proofs.Exact.{exact_le, exact_mod, exact_rest, exact_on, exact_over}
+use Rattle.claims.proofs.Tape.{never_wraps, plays_straight, place, plays_turning, Wraps, within, over, wraps}
+use Rattle.claims.proofs.Exact.{exact_le, exact_mod, exact_on, exact_over}
 use Rattle.claims.proofs.Position.{Frames, frames_zero, frames_whole, frames_duration, first_frame_lem, wrap_part, wrap_whole}
 use Rattle.claims.proofs.Laws.{Below, frames_more, below}
 

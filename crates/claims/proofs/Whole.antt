@@ -1,13 +1,13 @@
 -- The long_run_lem statement: from its premises to the player before the first block, and from there block by block. Assumes nothing.
-use mathlib.Core.Path.{◌≡◌, refl, sym, ap, ap₂, ◌∙◌, subst}
-use mathlib.Core.Bool.{Bool, true, false, true≢false, false≢true}
+use mathlib.Core.Path.{◌≡◌, refl, sym, ap, ◌∙◌, subst}
+use mathlib.Core.Bool.{Bool, true, false, false≢true}
 use mathlib.Core.List.{List, [], ◌∷◌, ◌++◌}
 use mathlib.Core.Logic.{inr}
-use Prim.Native.Nat.{ℕ, zero, suc, ◌+◌, ◌*◌, ◌≤◌}
+use Prim.Native.Nat.{ℕ, suc, ◌≤◌}
 use native.Mathlib.Omega.{arith}
 use lib.Dec.{T}
 use lib.ListN.{length}
-use lib.Ieee.{Float, binary32, of_bits, fits, le}
+use lib.Ieee.{Float, binary32, fits, le}
 use lib.Ieee.Bits.{is_true}
 use Rattle.buffer.specs.Limits.{valid_rate}
 use Rattle.buffer.specs.declared.Shape.{Shape}
@@ -15,7 +15,7 @@ use Rattle.seconds.specs.Seconds.{none, never}
 use Rattle.player.specs.Record.{shape_of, fresh}
 use Rattle.player.specs.declared.Player.{Player}
 use Rattle.player.specs.declared.ControlMessage.TheVariants.{Start, Stop, Loop, LoopStart, LoopEnd}
-use Rattle.claims.specs.Calls.{Call, buffer, message, block, all_typed, Event, accepted, after_all, time_of, opening, playing, Clip, Started, clip_in, start_in, stop_in, switch_in, point_in, gathered}
+use Rattle.claims.specs.Calls.{Call, buffer, message, block, all_typed, Event, accepted, after_all, time_of, opening, playing, Clip, Started, clip_in, start_in, stop_in, switch_in, gathered}
 use Rattle.claims.specs.LongRun.{starts_in_time, Premises, switched_on, exact_frames, Stands, Block, Holds, LongRun}
 use Rattle.claims.proofs.Units.{Rate, rate_of}
 use Rattle.claims.proofs.Position.{frames_zero, elapsed_none, clip_not_none}

@@ -1,5 +1,5 @@
 -- Lists of calls that meet the premises of the long_run_lem statement, one with blocks in cents, and one with previews. Definitions only.
-use Rattle.std.specs.Prelude.{◌≡◌, Bool, true, false, List, [], ◌∷◌, ℕ, ◌+◌, T, ℤ, pos, negsuc, length, replicate, Float}
+use Rattle.std.specs.Prelude.{◌≡◌, true, false, List, [], ◌∷◌, ℕ, ◌+◌, T, ℤ, pos, negsuc, length, replicate, Float}
 use Rattle.std.specs.Float.{fin, binary32}
 use Rattle.std.specs.Float.Ieee.{fits}
 use Rattle.buffer.specs.Limits.{valid_rate}

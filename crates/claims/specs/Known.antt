@@ -1,5 +1,5 @@
 -- Document 01, 'Known frames': all the starred ones, as one claim about the definitions. Definitions only.
-use Rattle.std.specs.Prelude.{◌≡◌, Bool, true, false, List, [], ℕ, ◌+◌, pos, negsuc, length, Float}
+use Rattle.std.specs.Prelude.{◌≡◌, Bool, true, false, List, ℕ, ◌+◌, pos, negsuc, Float}
 use Rattle.std.specs.Float.{fin}
 use Rattle.rounding.specs.Known.{KnownRounding}
 use Rattle.fused.specs.Known.{KnownFused}
@@ -12,7 +12,7 @@ use Rattle.player.specs.Messages.{clamped_start, clamped_end}
 use Rattle.player.specs.Block.{plan}
 use Rattle.player.specs.declared.Player.{Player}
 use Rattle.player.specs.declared.ControlMessage.TheVariants.{Start, Loop}
-use Rattle.claims.specs.Calls.{Call, buffer, message, next, is_ended}
+use Rattle.claims.specs.Calls.{buffer, message, next, is_ended}
 
 -- 'Duration 1: loop end 0, −1, 1.5 become 1; loop start −1, 2 become 0, 1.'
 abbrev minus_one : Float

@@ -2,7 +2,6 @@
 // audio_buffer_source.rs.
 #![tactic(auto)]
 
-
 mod alignment;
 mod beginning;
 mod block;

@@ -1,6 +1,6 @@
 -- The code's numbers are the definitions'. Assumes nothing.
 use mathlib.Core.Path.{◌≡◌, refl}
-use lib.Ieee.{Float, binary32, binary64, of_bits, of_int}
+use lib.Ieee.{binary32, binary64, of_bits, of_int}
 use Rattle.rounding.specs.Rounding.{whole}
 use Rattle.player_c.specs.Playing.{samples_in_second}
 

@@ -1,6 +1,5 @@
 -- `player::Player::is_aligned` meets its contract: what each test showed is brought to the definition's terms. Assumes nothing.
 use mathlib.Core.Path.{sym, ◌∙◌}
-use borrow.Author.Tests.{not-true, not-false}
 use Rattle.player.specs.Block.{is_aligned}
 use Rattle.player.proofs.Player.is_aligned.Goals as goal
 

@@ -4,7 +4,7 @@ use mathlib.Core.Bool.{true, false}
 use Prim.Native.Nat.{ℕ}
 use lib.Dec.{eqb}
 use lib.Ieee.{Float}
-use borrow.Author.Tests.{eq-eqb, ne_eqb, not-false}
+use borrow.Author.Tests.{eq-eqb, ne_eqb}
 use Rattle.player.specs.declared.Handled.TheVariants.{Done}
 use Rattle.player.specs.declared.Player.{Player}
 use Rattle.buffer.specs.Limits.{valid_shape, valid_rate}

@@ -1,6 +1,5 @@
 -- `player::refusal::is_bad_rate` meets its contract: what each test showed is brought to the definition's terms. Assumes nothing.
 use mathlib.Core.Path.{sym, ◌∙◌}
-use borrow.Author.Tests.{not-true, not-false}
 use lib.Ieee.{of_bits}
 use Rattle.player.specs.Block.{bad_rate}
 use Rattle.player.proofs.refusal.is_bad_rate.Goals as goal
