@@ -1,6 +1,8 @@
 // Prints the table of document 02, 2.1, from its rule: 1,200 lines, entry 0 first. A lower bound of
 // 2^(c/1200) × 2^62 is multiplied on from entry to entry; its upper 31 digits are the entry. No
 // table is read.
+#![tactic(auto)]
+
 ghost use Rattle.std.specs.Prelude.{◌≡◌, ◌+◌, ◌≤◌, length, take};
 ghost use Rattle.std.proofs.lemmas.List.Edits.{sets};
 ghost use Rattle.text.specs.Lines.{NEWLINE, field};
@@ -8,7 +10,7 @@ ghost use Rattle.detune.specs.Table.{entries};
 ghost use Rattle.detune_table.specs.Statement.{Generated};
 ghost use Rattle.detune_table.specs.Text.{table_text};
 
-use libc::STDOUT_FILENO;
+use std::io;
 use text::Printed;
 use words::scaled;
 
@@ -58,8 +60,8 @@ fn put_table(out: &mut [u8]) -> usize
     at
 }
 
-fn main() {
+fn main(rt: HostRuntime) -> io::Result<()> {
     let mut out = [0u8; ROOM];
     let n = put_table(&mut out);
-    io::write_all(STDOUT_FILENO, &out[..n]);
+    rt.write_all(&out[..n])
 }

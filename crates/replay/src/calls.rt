@@ -8,6 +8,7 @@ use protocol::orders::{COPY_FROM, EXTEND, size};
 use protocol::print::{put_buffer, put_channels, put_form, put_refusal};
 use protocol::scan::{Numbers, f32_of, smaller};
 use reshape::{Made, Parted};
+use std::io;
 
 const UNTOUCHED: u32 = 0xdead_beef;
 
@@ -49,20 +50,26 @@ fn copied(due: usize, n: Numbers, words: &[u32], to: &mut [u32]) -> Copied {
 }
 
 // A copy's answer, and what it left: the destination's words, or the buffer.
-fn put_copied(answer: Copied, due: usize, n: Numbers, words: &[u32]) {
+fn put_copied(
+    rt: &impl Print,
+    answer: Copied,
+    due: usize,
+    n: Numbers,
+    words: &[u32],
+) -> io::Result<()> {
     match answer {
-        Copied::Refused(refusal) => put_refusal(refusal),
+        Copied::Refused(refusal) => put_refusal(rt, refusal),
         Copied::Frames(count) => {
-            put_form(b"K d\n", &[count]);
+            put_form(rt, b"K d\n", &[count])?;
             if due == COPY_FROM {
-                return put_channels(1, words.len(), words);
+                return put_channels(rt, 1, words.len(), words);
             }
             let shape = Shape {
                 channels: n.a,
                 frames: n.b,
                 rate: COPY_RATE,
             };
-            put_buffer(b'K', shape, words)
+            put_buffer(rt, b'K', shape, words)
         }
     }
 }
@@ -88,37 +95,43 @@ fn printed(refusal: u32) -> u32 {
 }
 
 // A buffer that was made, in `out`, or the refusal.
-fn put_made(answer: Made, due: usize, out: &[u32]) {
+fn put_made(rt: &impl Print, answer: Made, due: usize, out: &[u32]) -> io::Result<()> {
     let letter = if due == EXTEND { b'J' } else { b'Q' };
     match answer {
-        Made::Refused(refusal) => put_refusal(printed(refusal)),
-        Made::Buffer(shape) => put_buffer(letter, shape, out),
+        Made::Refused(refusal) => put_refusal(rt, printed(refusal)),
+        Made::Buffer(shape) => put_buffer(rt, letter, shape, out),
     }
 }
 
 // Two buffers that were made, or the refusal.
-fn put_parted(answer: Parted, first: &[u32], rest: &[u32]) {
+fn put_parted(rt: &impl Print, answer: Parted, first: &[u32], rest: &[u32]) -> io::Result<()> {
     match answer {
-        Parted::Refused(refusal) => put_refusal(refusal),
+        Parted::Refused(refusal) => put_refusal(rt, refusal),
         Parted::Buffers(a, b) => {
-            put_buffer(b'V', a, first);
-            put_buffer(b'V', b, rest);
+            put_buffer(rt, b'V', a, first)?;
+            put_buffer(rt, b'V', b, rest)
         }
     }
 }
 
-fn parted(n: Numbers, words: &[u32], first: &mut [u32], rest: &mut [u32]) {
+fn parted(
+    rt: &impl Print,
+    n: Numbers,
+    words: &[u32],
+    first: &mut [u32],
+    rest: &mut [u32],
+) -> io::Result<()> {
     let len = words.len() - smaller(first.len(), words.len());
     let k = smaller(len, rest.len());
     let shape = shape_of(n.a, n.b, n.c);
     let answer = reshape::split(shape, words, n.d, first, &mut rest[..k]);
-    put_parted(answer, first, rest)
+    put_parted(rt, answer, first, rest)
 }
 
 // A split, the rest of which has its own room.
-fn split(n: Numbers, words: &[u32], first: &mut [u32]) {
+fn split(rt: &impl Print, n: Numbers, words: &[u32], first: &mut [u32]) -> io::Result<()> {
     let mut rest = room();
-    parted(n, words, first, &mut rest)
+    parted(rt, n, words, first, &mut rest)
 }
 
 // The words of a conversion's result; 0 where it is refused.
@@ -142,30 +155,43 @@ fn first_size(due: usize, n: Numbers, wanted: usize) -> usize {
 }
 
 // Makes the call that is due.
-fn called(due: usize, n: Numbers, words: &[u32], first: &mut [u32]) {
+fn called(
+    rt: &impl Print,
+    due: usize,
+    n: Numbers,
+    words: &[u32],
+    first: &mut [u32],
+) -> io::Result<()> {
     match due {
         21 | 22 => {
             let answer = copied(due, n, words, first);
-            put_copied(answer, due, n, first)
+            put_copied(rt, answer, due, n, first)
         }
-        24 => split(n, words, first),
+        24 => split(rt, n, words, first),
         _ => {
             let answer = made(due, n, words, first);
-            put_made(answer, due, first)
+            put_made(rt, answer, due, first)
         }
     }
 }
 
 // Answers an order that leaves the player alone.
-pub fn answered(due: usize, n: Numbers, player: Player, words: &[u32], first: &mut [u32]) {
+pub fn answered(
+    rt: &impl Print,
+    due: usize,
+    n: Numbers,
+    player: Player,
+    words: &[u32],
+    first: &mut [u32],
+) -> io::Result<()> {
     match due {
-        20 => shown(player),
+        20 => shown(rt, player),
         21..=25 => {
             let j = smaller(first_size(due, n, words.len()), first.len());
-            called(due, n, words, &mut first[..j])
+            called(rt, due, n, words, &mut first[..j])
         }
-        26 => put_refusal(0),
-        27 => put_refusal(buffer::refusals::SHAPE),
-        _ => {}
+        26 => put_refusal(rt, 0),
+        27 => put_refusal(rt, buffer::refusals::SHAPE),
+        _ => Ok(()),
     }
 }

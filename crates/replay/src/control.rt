@@ -4,11 +4,12 @@ use preview::Previewed;
 use protocol::orders::{CENTS, CLIP, PREVIEW, PREVIEW_CENTS, RATE, lengths};
 use protocol::print::{put_channels, put_form, put_line, put_refusal};
 use protocol::scan::{Numbers, f32_of, f64_of, i32_of, smaller};
+use std::io;
 
 const OUTPUT: usize = 4_096;
 
 // The player, whether an `R` line made it, and its clip's length.
-#[derive(Drop)]
+#[derive(Clone, Copy)]
 pub struct Machine {
     pub player: Player,
     pub made: bool,
@@ -54,21 +55,28 @@ fn is_made(due: usize, before: bool, accepted: bool) -> bool {
 }
 
 // Messages, clips and `R` lines.
-pub fn told(m: Machine, due: usize, n: Numbers, words: &[u32], clip: &mut [u32]) -> Machine {
+pub fn told(
+    rt: &impl Print,
+    m: Machine,
+    due: usize,
+    n: Numbers,
+    words: &[u32],
+    clip: &mut [u32],
+) -> io::Result<Machine> {
     let player = m.player;
     match handled(player, due, n, words) {
-        Handled::Done(next) => Machine {
+        Handled::Done(next) => Ok(Machine {
             player: next,
             made: is_made(due, m.made, true),
             clip: kept(due, m.clip, words, clip),
-        },
+        }),
         Handled::Refused(number) => {
-            put_refusal(number);
-            Machine {
+            put_refusal(rt, number)?;
+            Ok(Machine {
                 player,
                 made: is_made(due, m.made, false),
                 clip: m.clip,
-            }
+            })
         }
     }
 }
@@ -83,38 +91,48 @@ fn pattern(x: f64) -> usize {
 
 // A letter, what a block answers or would answer, and its output.
 fn put_report(
+    rt: &impl Print,
     letter: u8,
     keep_alive: bool,
     ended: bool,
     channels: usize,
     position: f64,
     out: &[u32],
-) {
+) -> io::Result<()> {
     let values = [bit(keep_alive), bit(ended), channels, pattern(position)];
-    put_form(&[letter], &[]);
-    put_form(b" d d d f\n", &values);
-    put_channels(channels, 128, out)
+    put_form(rt, &[letter], &[])?;
+    put_form(rt, b" d d d f\n", &values)?;
+    put_channels(rt, channels, 128, out)
 }
 
 // The player that a block left, and the block printed.
-fn reported(player: Player, answer: Rendered, out: &[u32]) -> Player {
+fn reported(rt: &impl Print, player: Player, answer: Rendered, out: &[u32]) -> io::Result<Player> {
     match answer {
         Rendered::Refused(number) => {
-            put_refusal(number);
-            player
+            put_refusal(rt, number)?;
+            Ok(player)
         }
         Rendered::Block(r) => {
-            put_report(b'B', r.keep_alive, r.ended, r.channels, r.position.0, out);
-            r.player
+            put_report(
+                rt,
+                b'B',
+                r.keep_alive,
+                r.ended,
+                r.channels,
+                r.position.0,
+                out,
+            )?;
+            Ok(r.player)
         }
     }
 }
 
 // A preview printed.
-fn put_preview(letter: u8, answer: Previewed, out: &[u32]) {
+fn put_preview(rt: &impl Print, letter: u8, answer: Previewed, out: &[u32]) -> io::Result<()> {
     match answer {
-        Previewed::Refused(number) => put_refusal(number),
+        Previewed::Refused(number) => put_refusal(rt, number),
         Previewed::Block(c) => put_report(
+            rt,
             letter,
             c.keep_alive,
             c.ended,
@@ -145,31 +163,45 @@ fn rendered(p: Player, due: usize, n: Numbers, samples: &[u32], out: &mut [u32])
 }
 
 // A preview by a factor, or in cents, printed.
-fn previewed(p: Player, due: usize, n: Numbers, samples: &[u32], out: &mut [u32]) {
+fn previewed(
+    rt: &impl Print,
+    p: Player,
+    due: usize,
+    n: Numbers,
+    samples: &[u32],
+    out: &mut [u32],
+) -> io::Result<()> {
     let time = f64_of(n.a);
     let rate = f32_of(n.b);
     if due < PREVIEW_CENTS {
         let answer = preview::preview(p, out, samples, time, rate, f64_of(n.c));
-        return put_preview(b'M', answer, out);
+        return put_preview(rt, b'M', answer, out);
     }
     let answer = preview::preview_cents(p, out, samples, time, rate, i32_of(n.c));
-    put_preview(b'N', answer, out)
+    put_preview(rt, b'N', answer, out)
 }
 
 // `B` and `D` lines; and `M` and `N` lines, which leave the player as it was.
-pub fn block(m: Machine, due: usize, n: Numbers, clip: &[u32], out: &mut [u32]) -> Machine {
+pub fn block(
+    rt: &impl Print,
+    m: Machine,
+    due: usize,
+    n: Numbers,
+    clip: &[u32],
+    out: &mut [u32],
+) -> io::Result<Machine> {
     let j = smaller(output_length(due, n), out.len());
     let k = smaller(samples_length(due, n, m.clip), clip.len());
     if due >= PREVIEW {
-        previewed(m.player, due, n, &clip[..k], &mut out[..j]);
-        return m;
+        previewed(rt, m.player, due, n, &clip[..k], &mut out[..j])?;
+        return Ok(m);
     }
     let answer = rendered(m.player, due, n, &clip[..k], &mut out[..j]);
-    Machine {
-        player: reported(m.player, answer, out),
+    Ok(Machine {
+        player: reported(rt, m.player, answer, out)?,
         made: true,
         clip: m.clip,
-    }
+    })
 }
 
 // The player's numbers, as `Z` prints them, but for the last.
@@ -194,11 +226,11 @@ fn state(p: Player) -> [usize; 15] {
 }
 
 // `Z` lines.
-pub fn shown(player: Player) {
+pub fn shown(rt: &impl Print, player: Player) -> io::Result<()> {
     let values = state(player);
-    put_form(b"Z f f f f d f f f d d f d d d d", &values);
+    put_form(rt, b"Z f f f f d f f f d d f d d d d", &values)?;
     if player.has_block {
-        return put_form(b" f\n", &[pattern(player.block_time.0)]);
+        return put_form(rt, b" f\n", &[pattern(player.block_time.0)]);
     }
-    put_line(b" none")
+    put_line(rt, b" none")
 }

@@ -1,18 +1,25 @@
 // Plays the clip of clip.bin as the lines of standard input say. What the lines do and print is said
 // in the crates `obeying` and `session`; here it is read and written.
-ghost use Rattle.std.specs.Prelude.{◌≡◌, length};
+#![tactic(auto)]
+
+ghost use Rattle.std.specs.Prelude.{◌≡◌, ◌≤◌, length, IfSome};
 ghost use Rattle.obeying.specs.Obeying.{written};
 
 use buffer::{Shape, refusals};
 use clip::ClipRead;
-use libc::{STDIN_FILENO, STDOUT_FILENO};
 use obeying::{Obeyed, Session};
 use player::{Handled, Player};
 use session::State;
+use std::io::Read;
+use std::rt::Files;
+use std::{fs, io};
 
 // Room for what is printed before it is written: a block's text, and as much again, so that much
 // is written at a time.
 const OUT: usize = 600_000;
+
+// How much is read at a time, at most.
+const IN: usize = 65_536;
 
 // The contract gives only the length, which lending the array as a slice needs.
 fn out_buffer() -> [u8; OUT]
@@ -31,67 +38,68 @@ fn printed_by(answer: Obeyed) -> usize
     }
 }
 
-// Obeys the lines of standard input to its end, and a last line that lacks its newline. Of what was
-// read, the bytes from `at` to `n` are left. A proved loop has to end: between two reads each `feed`
-// takes some bytes, and the reads are counted down from a number that no run uses up.
-fn run(mut state: State, samples: &[u32]) {
-    let mut input = io::large_buffer();
+// Obeys the lines of the input to its end, and a last line that lacks its newline. Of the `n` bytes
+// that were read, those from `at` on are left: each `feed` takes some. Nothing says that the input
+// ends, so the reads are counted.
+fn run(
+    rt: &impl Print,
+    input: &mut impl Read,
+    mut state: State,
+    samples: &[u32],
+) -> io::Result<()> {
+    let mut bytes = [0u8; IN];
     let mut line = [0u8; 64];
     let mut words = [0u32; 4096];
     let mut out = out_buffer();
-    let mut n = 0;
-    let mut at = 0;
-    let mut reads = u64::MAX;
-    while reads > 0 {
-        if at == n {
-            let got = libc::read(STDIN_FILENO, &mut input);
-            n = io::count(got, &input);
-            at = 0;
-            reads -= 1;
-        }
+    for _ in 0..u64::MAX {
+        let n = input.read(&mut bytes)?;
         if n == 0 {
             break;
         }
-        let fed = session::feed(
-            state,
-            &input[at..n],
-            &mut line,
-            samples,
-            &mut words,
-            &mut out,
-        );
-        let printed = fed.printed;
-        io::write_all(STDOUT_FILENO, &out[..printed]);
-        state = fed.state;
-        at += fed.taken;
+        let mut at = 0;
+        while at < n {
+            let fed = session::feed(
+                state,
+                &bytes[at..n],
+                &mut line,
+                samples,
+                &mut words,
+                &mut out,
+            );
+            let printed = fed.printed;
+            rt.write_all(&out[..printed])?;
+            state = fed.state;
+            at += fed.taken;
+        }
     }
     let printed = printed_by(session::finish(state, &line, samples, &mut words, &mut out));
-    io::write_all(STDOUT_FILENO, &out[..printed]);
+    rt.write_all(&out[..printed])
 }
 
 // Prints a refused clip.
-fn refuse(number: u32) {
+fn refuse(rt: &impl Print, number: u32) -> io::Result<()> {
     let mut out = [0u8; 64];
     if let text::Printed::Bytes(n) = text::refusal_text(number, &mut out) {
         if n <= 64 {
-            io::write_all(STDOUT_FILENO, &out[..n]);
+            rt.write_all(&out[..n])?;
         }
     }
+    Ok(())
 }
 
 // Gives a player at the clip's rate the clip, and obeys the lines.
-fn start(shape: Shape, samples: &[u32]) {
+fn start(rt: &impl Print, input: &mut impl Read, shape: Shape, samples: &[u32]) -> io::Result<()> {
     match Player::new(shape.rate) {
         Handled::Done(fresh) => {
             match fresh.set_buffer(shape.channels, shape.frames, shape.rate, samples) {
                 Handled::Done(player) => {
                     let session = Session { player, number: 0 };
-                    run(State { session, len: 0 }, samples);
+                    run(rt, input, State { session, len: 0 }, samples)
                 }
-                Handled::Refused(number) => refuse(number),
+                Handled::Refused(number) => refuse(rt, number),
             }
         }
-        Handled::Refused(number) => refuse(number),
+        Handled::Refused(number) => refuse(rt, number),
     }
 }
 
@@ -107,31 +115,56 @@ fn sample_count(file: &[u8]) -> usize {
     }
 }
 
-// Reads the clip of a file's bytes.
-fn load(file: &[u8], samples: &mut [u32]) {
+// Reads the clip of a file's bytes, and plays it.
+fn load(
+    rt: &impl Print,
+    input: &mut impl Read,
+    file: &[u8],
+    samples: &mut [u32],
+) -> io::Result<()> {
     let count = sample_count(file);
     if count > samples.len() {
-        refuse(refusals::LAYOUT);
-        return;
+        return refuse(rt, refusals::LAYOUT);
     }
     match clip::read_frames(file, &mut samples[..count]) {
         ClipRead::Clip(header) => {
             let shape = header.shape;
-            start(shape, &samples[..count]);
+            start(rt, input, shape, &samples[..count])
         }
-        ClipRead::Refused(number) => refuse(number),
+        ClipRead::Refused(number) => refuse(rt, number),
     }
 }
 
-fn main() {
+// Reads until `bytes` is full, the file ends or a read fails, and returns how many bytes it read.
+fn read_full(file: &mut impl Read, bytes: &mut [u8]) -> usize
+    ensures { result ≤ length bytes.old }
+{
+    let mut done = 0;
+    while done < bytes.len() {
+        let n = file.read(&mut bytes[done..]).unwrap_or(0);
+        if n == 0 {
+            break;
+        }
+        done += n;
+    }
+    done
+}
+
+// Reads the file of the clip; none where it can't be opened.
+fn read_clip(rt: &impl Files, bytes: &mut [u8]) -> Option<usize>
+    ensures { IfSome result (λ n. n ≤ length bytes.old) }
+{
+    match fs::open(rt, "clip.bin") {
+        Ok(mut file) => Some(read_full(&mut file, bytes)),
+        Err(_) => None,
+    }
+}
+
+fn main(rt: HostRuntime) -> io::Result<()> {
     let mut file = [0u8; 65537];
     let mut samples = [0u32; 16384];
-    let fd = os::open_read(b"clip.bin");
-    if fd < 0 {
-        refuse(refusals::LAYOUT);
-        return;
+    match read_clip(&rt, &mut file) {
+        Some(n) => load(&rt, &mut rt.stdin(), &file[..n], &mut samples),
+        None => refuse(&rt, refusals::LAYOUT),
     }
-    let n = io::read_full(fd, &mut file);
-    libc::close(fd);
-    load(&file[..n], &mut samples);
 }

@@ -2,11 +2,7 @@
 use mathlib.Core.Path.{sym}
 use Prim.Native.Nat.{ℕ}
 use lib.ListN.{length-replicate}
-use Rattle.replay.proofs.calls.room.Statement.{statement}
-use Rattle.replay.proofs.calls.room.Tie as tie
+use Rattle.replay.proofs.calls.room.Goals as goal
 
-returns : tie.Need-returns
+pub returns : goal.returns
 returns c = sym (length-replicate {A = ℕ} 262144 0)
-
-pub room-spec : {M : Type 1} → statement M
-room-spec = tie.close (tie.spec returns)
