@@ -8,7 +8,7 @@ use seplogic.Ra.Ura.{Ura}
 use lib.IntN.{ℤ}
 use lib.ListN.{length}
 use lib.Ieee.{Float, binary32, binary64, fits}
-use mir.Syntax.{Callee, Ty, ty_int, ty_float, ty_ref, w32, named, erased, mut, imm, local, value_local, place, deref, field, copy, rv_opd, addr_of, aggregate, Body, seq, assign, call, return, Fn}
+use mir.Syntax.{Callee, Ty, ty_int, ty_float, ty_ref, w32, named, erased, mut, imm, Local, local, value_local, place, deref, field, copy, rv_opd, addr_of, aggregate, Body, seq, assign, call, return, Fn}
 use mir.Val.{Val, vint, vfloat, of_z}
 use base.Logic.{ent, sep, emp}
 use base.Stored.{Coded, coded_float, coded_ℤ}
@@ -71,9 +71,9 @@ pub told : (r : Blocked) (v : Val) → Is R.the_row r (v ∷ []) → Is N.the_ro
 told r v is = (LL.owed R.the_type R'.the_laws r (v ∷ []) is).1.0
 
 -- ---- the code of a function over a lent player: the record is copied out, and the callee is called; by the types of the reference and of the last parameter, the
--- callee, and what follows
-abbrev pub calling : Ty → Ty → Callee → Body → Fn
-calling ref τ callee rest = record {
+-- callee, the locals beyond, and what follows
+abbrev pub calling : Ty → Ty → Callee → List Local → Body → Fn
+calling ref τ callee more rest = record {
   lifetimes = 3;
   outlives = [];
   ty_params = [];
@@ -91,7 +91,7 @@ calling ref τ callee rest = record {
       ∷ local T'.mir value_local
       ∷ local (ty_ref erased mut (ty_int w32)) value_local
       ∷ local (slice_ty (ty_ref erased mut (ty_int w32))) value_local
-      ∷ [];
+      ∷ more;
   body =
       seq (assign (place 8 []) (rv_opd (copy (place 1 (deref T'.mir ∷ [])))))
       (seq (assign (place 9 []) (addr_of (place 2 (field 0 ∷ deref (ty_int w32) ∷ []))))

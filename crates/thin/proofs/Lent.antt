@@ -3,7 +3,8 @@
 -- Its MIR is the same but for the type of its last parameter and for the callee, and so is its walk: it stands here once, for a last parameter of any plain type of
 -- one machine value, and for any callee that answers by a definition. A function's own proof says which they are, and that its code, its signature and its contract
 -- are these ones: by computation.
--- The output goes to the callee at its own lifetime, share and ghost name, and is given up for good: what the callee says of its last list is said here.
+-- The output goes to the callee at its own lifetime, share and ghost name, and is given up for good: what the callee says of its last list is said here, and the
+-- borrow that it hands back is handed on. What is written back goes through a local for each field.
 -- The samples are had twice: one copy goes to the callee, and one is kept for the exit. Assumes nothing.
 use mathlib.Core.Path.{◌≡◌, refl, sym, ap, subst}
 use Prim.Native.Nat.{ℕ}
@@ -14,7 +15,7 @@ use base.Fraction.{full_share}
 use lib.Ieee.{Float, binary32, binary64, fits}
 use lib.Dec.{T}
 use lib.ListN.{length}
-use mir.Syntax.{Callee, Ty, w32, ty_ref, named, mut, place, deref, field, copy, rv_opd, seq, assign, Fn}
+use mir.Syntax.{Callee, Ty, w32, ty_ref, named, mut, ty_bool, local, value_local, place, deref, field, copy, rv_opd, seq, assign, Fn}
 use mir.Val.{Val, vfloat, vptr, has_ty, WT}
 use base.Logic.{SProp, ent, emp, via, fst∗, id⊢}
 use base.Fml.{GName, Lft, Share, flft, fobs, fbor, fat}
@@ -53,6 +54,9 @@ use Rattle.player.specs.declared.Player.{Player}
 use Rattle.lent.specs.declared.Blocked.{Blocked}
 use Rattle.player.specs.contracts.Player as T
 use Rattle.player.proofs.Player.TheLaws as T'
+use Rattle.player.proofs.RenderState.TheLaws as S'
+use Rattle.seconds.proofs.ContextSeconds.TheLaws as C'
+use Rattle.seconds.proofs.BufferSeconds.TheLaws as B'
 use Rattle.lent.specs.contracts.Blocked as R
 use Rattle.lent.proofs.Blocked.TheLaws as R'
 use Rattle.lent.specs.contracts.BlockAnswer as N
@@ -65,12 +69,18 @@ use Rattle.thin.proofs.Moved.{moved_to}
 abbrev pub thin : Ty → Callee → Fn
 thin τ callee =
     calling (ty_ref (named 0) mut (pointee (T.the_row).written)) τ callee
-    (seq (assign (place 1 (deref T'.mir ∷ field 1 ∷ [])) (rv_opd (copy (place 7 (field 0 ∷ field 1 ∷ [])))))
-    (seq (assign (place 1 (deref T'.mir ∷ field 3 ∷ [])) (rv_opd (copy (place 7 (field 0 ∷ field 3 ∷ [])))))
-    (seq (assign (place 1 (deref T'.mir ∷ field 6 ∷ [])) (rv_opd (copy (place 7 (field 0 ∷ field 6 ∷ [])))))
-    (seq (assign (place 1 (deref T'.mir ∷ field 10 ∷ [])) (rv_opd (copy (place 7 (field 0 ∷ field 10 ∷ [])))))
-    (seq (assign (place 1 (deref T'.mir ∷ field 11 ∷ [])) (rv_opd (copy (place 7 (field 0 ∷ field 11 ∷ [])))))
-    answering)))))
+    (local C'.mir value_local ∷ local B'.mir value_local ∷ local S'.mir value_local ∷ local ty_bool value_local ∷ local C'.mir value_local ∷ [])
+    (seq (assign (place 11 []) (rv_opd (copy (place 7 (field 0 ∷ field 1 ∷ [])))))
+    (seq (assign (place 1 (deref T'.mir ∷ field 1 ∷ [])) (rv_opd (copy (place 11 []))))
+    (seq (assign (place 12 []) (rv_opd (copy (place 7 (field 0 ∷ field 3 ∷ [])))))
+    (seq (assign (place 1 (deref T'.mir ∷ field 3 ∷ [])) (rv_opd (copy (place 12 []))))
+    (seq (assign (place 13 []) (rv_opd (copy (place 7 (field 0 ∷ field 6 ∷ [])))))
+    (seq (assign (place 1 (deref T'.mir ∷ field 6 ∷ [])) (rv_opd (copy (place 13 []))))
+    (seq (assign (place 14 []) (rv_opd (copy (place 7 (field 0 ∷ field 10 ∷ [])))))
+    (seq (assign (place 1 (deref T'.mir ∷ field 10 ∷ [])) (rv_opd (copy (place 14 []))))
+    (seq (assign (place 15 []) (rv_opd (copy (place 7 (field 0 ∷ field 11 ∷ [])))))
+    (seq (assign (place 1 (deref T'.mir ∷ field 11 ∷ [])) (rv_opd (copy (place 15 []))))
+    answering))))))))))
 
 -- ---- the signatures and the contracts, by the last parameter and by what is answered and written
 module _ (X : One) where
@@ -154,21 +164,21 @@ module _ (X : One) (answer : Answers X) (output : Outputs X) (callee : Callee) {
           split ! $ move ! (2 ∷ []) $ fsplit ! $ move ! (1 ∷ []) $ fsplit ! $ move ! (1 ∷ []) $ fsplit ! $ move ! (3 ∷ []) $ fsplit3 ! $ drop ! $ move ! (0 ∷ 1 ∷ 5 ∷ 4 ∷ 2 ∷ 6 ∷ []) $
           -- [obs; the borrow; its token; what out owns; what samples owns; the other tokens; what the numbers own]
           enter ! C Λ (thin X.ty callee) (vptr b o ∷ slice_val s.ref_ptr (length s.now) ∷ slice_val m.ref_ptr (length m.now) ∷ vfloat binary64 time ∷ vfloat binary32 rate ∷ X.val last ∷ []) _ $
-          alloc1 ! (λ l₀. alloc1 ! (λ l₁. alloc1 ! (λ l₂. alloc1 ! (λ l₃. alloc1 ! (λ l₄. alloc1 ! (λ l₅. alloc1 ! (λ l₆. alloc1 ! (λ l₇. alloc1 ! (λ l₈. alloc1 ! (λ l₉. alloc1 ! (λ l₁₀. alloc0 ! $ params1 ! $
-          pass1 ! (init ! 18 refl (tt, tt)) $ pass1 ! (init ! 16 refl ((mut_slice_Lawful 𝓛 (named 1) κ₁ u32).typed s _ is-out).0) $ pass1 ! (init ! 14 refl ((shr_slice_Lawful 𝓛 (named 2) κ₂ u32).typed m _ is-samples).0) $
-          pass1 ! (init ! 12 refl (tt, passes _ ok-time)) $ pass1 ! (init ! 10 refl (tt, passes _ ok-rate)) $ pass1 ! (init ! 8 refl (lawful.typed last _ is_last).0) $ pass0 ! $
-          move ! (22 ∷ 23 ∷ 24 ∷ []) $ opens ! tt T.the_row {h = h} b o (λ vs. spelt ! T.the_row (Is T.the_row) (shows 𝓛 T.the_row) vals (LL.tells T.the_type T'.the_laws) full_share h vs b o $
+          alloc1 ! (λ l₀. alloc1 ! (λ l₁. alloc1 ! (λ l₂. alloc1 ! (λ l₃. alloc1 ! (λ l₄. alloc1 ! (λ l₅. alloc1 ! (λ l₆. alloc1 ! (λ l₇. alloc1 ! (λ l₈. alloc1 ! (λ l₉. alloc1 ! (λ l₁₀. alloc1 ! (λ l₁₁. alloc1 ! (λ l₁₂. alloc1 ! (λ l₁₃. alloc1 ! (λ l₁₄. alloc1 ! (λ l₁₅. alloc0 ! $ params1 ! $
+          pass1 ! (init ! 28 refl (tt, tt)) $ pass1 ! (init ! 26 refl ((mut_slice_Lawful 𝓛 (named 1) κ₁ u32).typed s _ is-out).0) $ pass1 ! (init ! 24 refl ((shr_slice_Lawful 𝓛 (named 2) κ₂ u32).typed m _ is-samples).0) $
+          pass1 ! (init ! 22 refl (tt, passes _ ok-time)) $ pass1 ! (init ! 20 refl (tt, passes _ ok-rate)) $ pass1 ! (init ! 18 refl (lawful.typed last _ is_last).0) $ pass0 ! $
+          move ! (32 ∷ 33 ∷ 34 ∷ []) $ opens ! tt T.the_row {h = h} b o (λ vs. spelt ! T.the_row (Is T.the_row) (shows 𝓛 T.the_row) vals (LL.tells T.the_type T'.the_laws) full_share h vs b o $
           move ! (1 ∷ []) $ peeks ! T.the_row (Is T.the_row) (shows 𝓛 T.the_row) h (vals h) (λ was. move ! (1 ∷ 0 ∷ []) $
-          -- [the record's cell; what it owns; the open borrow; obs; auth; room for _10 to _7, each with its end; _6 to _1, likewise; room for _0; …; what out owns; what samples owns; the tokens]
-          assigns ! (of_opd ! (load ! (from ! (hop ! (look ! 23 refl) (stop !))) (look_raw ! 0 refl))) (from ! (stop !)) (init ! 9 refl ((LL.lawful T.the_type T'.the_laws 𝓛).typed h _ was).0) $
-          assigns ! (addr ! (from ! (fld ! refl (hop ! (look_in ! 21 (sub ! 0 refl (whole !))) (stop !))))) (from ! (stop !)) (init ! 7 refl (tt, tt)) $
-          assigns ! (agg ! (and_then ! (load ! (from ! (stop !)) (look ! 7 refl)) (and_then ! (load ! (from ! (fld ! refl (stop !))) (look_in ! 21 (sub ! 1 refl (whole !)))) (no_more !)))) (from ! (stop !))
-          (init ! 5 refl (tt, (tt, (record { fits = is-out.0.1.0 }, tt)))) $
+          -- [the record's cell; what it owns; the open borrow; obs; auth; room for _15 to _7, each with its end; _6 to _1, likewise; room for _0; …; what out owns; what samples owns; the tokens]
+          assigns ! (of_opd ! (load ! (from ! (hop ! (look ! 33 refl) (stop !))) (look_raw ! 0 refl))) (from ! (stop !)) (init ! 19 refl ((LL.lawful T.the_type T'.the_laws 𝓛).typed h _ was).0) $
+          assigns ! (addr ! (from ! (fld ! refl (hop ! (look_in ! 31 (sub ! 0 refl (whole !))) (stop !))))) (from ! (stop !)) (init ! 17 refl (tt, tt)) $
+          assigns ! (agg ! (and_then ! (load ! (from ! (stop !)) (look ! 17 refl)) (and_then ! (load ! (from ! (fld ! refl (stop !))) (look_in ! 31 (sub ! 1 refl (whole !)))) (no_more !)))) (from ! (stop !))
+          (init ! 15 refl (tt, (tt, (record { fits = is-out.0.1.0 }, tt)))) $
           -- the call: the samples are had twice
-          move ! (28 ∷ []) $ use1 𝓛 (‵ (Samples κ₂ m) ⊛ ‵ (Samples κ₂ m)) ((shr_slice_copy 𝓛 (named 1) κ₂ u32 (uint_row_laws w32)).twice m (shr_slice_vals m)) $ split ! $
-          move ! (30 ∷ 29 ∷ 0 ∷ []) $ use3 𝓛 (raw ((Core X answer output 𝓛).pre handed)) (goes_core X answer output 𝓛 κ₁ κ₂ q₁ q₂ h s m time rate last ok-time ok-rate is_last was) $
+          move ! (38 ∷ []) $ use1 𝓛 (‵ (Samples κ₂ m) ⊛ ‵ (Samples κ₂ m)) ((shr_slice_copy 𝓛 (named 1) κ₂ u32 (uint_row_laws w32)).twice m (shr_slice_vals m)) $ split ! $
+          move ! (40 ∷ 39 ∷ 0 ∷ []) $ use3 𝓛 (raw ((Core X answer output 𝓛).pre handed)) (goes_core X answer output 𝓛 κ₁ κ₂ q₁ q₂ h s m time rate last ok-time ok-rate is_last was) $
           calls_at ! fm (Core X answer output 𝓛) known handed
-          (and_then ! (load ! (from ! (stop !)) (look ! 11 refl)) (and_then ! (load ! (from ! (stop !)) (look ! 7 refl)) (and_then ! (load ! (from ! (stop !)) (look ! 21 refl)) (and_then ! (load ! (from ! (stop !)) (look ! 19 refl)) (and_then ! (load ! (from ! (stop !)) (look ! 17 refl)) (and_then ! (load ! (from ! (stop !)) (look ! 15 refl)) (no_more !))))))) (λ v.
+          (and_then ! (load ! (from ! (stop !)) (look ! 21 refl)) (and_then ! (load ! (from ! (stop !)) (look ! 17 refl)) (and_then ! (load ! (from ! (stop !)) (look ! 31 refl)) (and_then ! (load ! (from ! (stop !)) (look ! 29 refl)) (and_then ! (load ! (from ! (stop !)) (look ! 27 refl)) (and_then ! (load ! (from ! (stop !)) (look ! 25 refl)) (no_more !))))))) (λ v.
           use1 𝓛 (later (some (λ (r : Blocked). (held ⊛ ‵ ((R.the_row).own_val r (v ∷ []))) ⊛ raw (ensured 𝓛 (core_ended X) (core_clauses X answer output 𝓤) (κ₁, (κ₂, tt)) (passed X answer output 𝓛 κ₁ κ₂ q₁ q₂ h s m time rate last) tt r)))) (id⊢ 𝓤 _) $ await ! tt $ pick ! (λ r.
           -- what the callee ensures, at some last list of the output
           split ! $ move ! (1 ∷ []) $ use1 𝓛 (some (λ (zs : Unit {0} × (List ℕ × (Unit {0} × (Unit {0} × (Unit {0} × (Unit {0} × Unit {0})))))). ‵ (lasts (core_ended X) (κ₁, (κ₂, tt)) (passed X answer output 𝓛 κ₁ κ₂ q₁ q₂ h s m time rate last) zs) ⊛ raw (fact 𝓤 ((r ≡ Answer) × (zs.1.0 ≡ Written))))) (id⊢ 𝓤 _) $ pick ! (λ zs.
@@ -176,25 +186,30 @@ module _ (X : One) (answer : Answers X) (output : Outputs X) (callee : Callee) {
           -- [the last list; …; …; the tokens and the answer; the samples; the record's cell; …]
           move ! (3 ∷ []) $ split ! $ move ! (1 ∷ []) $ facts ! R.the_row (Is R.the_row) (shows 𝓛 R.the_row) r (v ∷ []) (λ is.
           -- [the tokens; the last list; …; …; the samples; the record's cell; what the old record owns; the open borrow; obs; auth; _10; …]
-          land ! (from ! (stop !)) (init ! 16 refl ((LL.lawful R.the_type R'.the_laws 𝓛).typed r _ is).0) $
-          rewrite ! 16 (λ (u : Val). ‵ (fat full_share R'.mir l₇ 0 u)) (spelled R.the_type R'.the_laws r v is) refl $
+          land ! (from ! (stop !)) (init ! 26 refl ((LL.lawful R.the_type R'.the_laws 𝓛).typed r _ is).0) $
+          rewrite ! 26 (λ (u : Val). ‵ (fat full_share R'.mir l₇ 0 u)) (spelled R.the_type R'.the_laws r v is) refl $
           -- the record's cell first: what a block may change is written back
           move ! (5 ∷ []) $ use1 𝓛 (‵ (fat full_share T'.mir b o (LL.val T.the_type T'.the_laws h))) (𝓛.laws.raw_at full_share T'.mir b o _) $
-          assigns ! (of_opd ! (load ! (from ! (fld ! refl (fld ! refl (stop !)))) (look_in ! 16 (sub ! 1 refl (sub ! 0 refl (whole !)))))) (from ! (hop ! (look ! 28 refl) (fld ! refl (stop !)))) (store_in ! 0 (sub ! 1 refl (whole !)) (tt, (fine r v is).1.1.0)) $
-          assigns ! (of_opd ! (load ! (from ! (fld ! refl (fld ! refl (stop !)))) (look_in ! 16 (sub ! 3 refl (sub ! 0 refl (whole !)))))) (from ! (hop ! (look ! 28 refl) (fld ! refl (stop !)))) (store_in ! 0 (sub ! 3 refl (whole !)) (tt, (fine r v is).1.1.1.1.0)) $
-          assigns ! (of_opd ! (load ! (from ! (fld ! refl (fld ! refl (stop !)))) (look_in ! 16 (sub ! 6 refl (sub ! 0 refl (whole !)))))) (from ! (hop ! (look ! 28 refl) (fld ! refl (stop !)))) (store_in ! 0 (sub ! 6 refl (whole !)) (tt, (fine r v is).1.1.1.1.1.1.1.0)) $
-          assigns ! (of_opd ! (load ! (from ! (fld ! refl (fld ! refl (stop !)))) (look_in ! 16 (sub ! 10 refl (sub ! 0 refl (whole !)))))) (from ! (hop ! (look ! 28 refl) (fld ! refl (stop !)))) (store_in ! 0 (sub ! 10 refl (whole !)) (tt, (fine r v is).1.1.1.1.1.1.1.1.1.1.1.0)) $
-          assigns ! (of_opd ! (load ! (from ! (fld ! refl (fld ! refl (stop !)))) (look_in ! 16 (sub ! 11 refl (sub ! 0 refl (whole !)))))) (from ! (hop ! (look ! 28 refl) (fld ! refl (stop !)))) (store_in ! 0 (sub ! 11 refl (whole !)) (tt, (fine r v is).1.1.1.1.1.1.1.1.1.1.1.1.0)) $
+          assigns ! (of_opd ! (load ! (from ! (fld ! refl (fld ! refl (stop !)))) (look_in ! 26 (sub ! 1 refl (sub ! 0 refl (whole !)))))) (from ! (stop !)) (init ! 18 refl (tt, (fine r v is).1.1.0)) $
+          assigns ! (of_opd ! (load ! (from ! (stop !)) (look ! 18 refl))) (from ! (hop ! (look ! 38 refl) (fld ! refl (stop !)))) (store_in ! 0 (sub ! 1 refl (whole !)) (tt, (fine r v is).1.1.0)) $
+          assigns ! (of_opd ! (load ! (from ! (fld ! refl (fld ! refl (stop !)))) (look_in ! 26 (sub ! 3 refl (sub ! 0 refl (whole !)))))) (from ! (stop !)) (init ! 16 refl (tt, (fine r v is).1.1.1.1.0)) $
+          assigns ! (of_opd ! (load ! (from ! (stop !)) (look ! 16 refl))) (from ! (hop ! (look ! 38 refl) (fld ! refl (stop !)))) (store_in ! 0 (sub ! 3 refl (whole !)) (tt, (fine r v is).1.1.1.1.0)) $
+          assigns ! (of_opd ! (load ! (from ! (fld ! refl (fld ! refl (stop !)))) (look_in ! 26 (sub ! 6 refl (sub ! 0 refl (whole !)))))) (from ! (stop !)) (init ! 14 refl (tt, (fine r v is).1.1.1.1.1.1.1.0)) $
+          assigns ! (of_opd ! (load ! (from ! (stop !)) (look ! 14 refl))) (from ! (hop ! (look ! 38 refl) (fld ! refl (stop !)))) (store_in ! 0 (sub ! 6 refl (whole !)) (tt, (fine r v is).1.1.1.1.1.1.1.0)) $
+          assigns ! (of_opd ! (load ! (from ! (fld ! refl (fld ! refl (stop !)))) (look_in ! 26 (sub ! 10 refl (sub ! 0 refl (whole !)))))) (from ! (stop !)) (init ! 12 refl (tt, (fine r v is).1.1.1.1.1.1.1.1.1.1.1.0)) $
+          assigns ! (of_opd ! (load ! (from ! (stop !)) (look ! 12 refl))) (from ! (hop ! (look ! 38 refl) (fld ! refl (stop !)))) (store_in ! 0 (sub ! 10 refl (whole !)) (tt, (fine r v is).1.1.1.1.1.1.1.1.1.1.1.0)) $
+          assigns ! (of_opd ! (load ! (from ! (fld ! refl (fld ! refl (stop !)))) (look_in ! 26 (sub ! 11 refl (sub ! 0 refl (whole !)))))) (from ! (stop !)) (init ! 10 refl (tt, (fine r v is).1.1.1.1.1.1.1.1.1.1.1.1.0)) $
+          assigns ! (of_opd ! (load ! (from ! (stop !)) (look ! 10 refl))) (from ! (hop ! (look ! 38 refl) (fld ! refl (stop !)))) (store_in ! 0 (sub ! 11 refl (whole !)) (tt, (fine r v is).1.1.1.1.1.1.1.1.1.1.1.1.0)) $
           rewrite ! 0 (λ (y : Player). ‵ (fat full_share T'.mir b o (LL.val T.the_type T'.the_laws y))) (stays r e.0) refl $
           use1 𝓛 (‵ (cell_at full_share (T.the_row).mir (vals r.player) b o)) (𝓛.laws.at_raw full_share T'.mir b o _) $
-          assigns ! (of_opd ! (load ! (from ! (fld ! refl (stop !))) (look_in ! 16 (sub ! 1 refl (whole !))))) (from ! (stop !)) (init ! 30 refl ((LL.lawful N.the_type N'.the_laws 𝓛).typed r.answer _ (told r v is)).0) $
+          assigns ! (of_opd ! (load ! (from ! (fld ! refl (stop !))) (look_in ! 26 (sub ! 1 refl (whole !))))) (from ! (stop !)) (init ! 40 refl ((LL.lawful N.the_type N'.the_laws 𝓛).typed r.answer _ (told r v is)).0) $
           move ! (6 ∷ []) $ drop ! $ owned ! T.the_row (Is T.the_row) (LL.makes T.the_type T'.the_plain 𝓛) r.player _ (next r v is) $
           move ! (1 ∷ 0 ∷ 7 ∷ 8 ∷ 9 ∷ []) $ closes ! tt T.the_row r.player (vals r.player) b o $
           -- [obs; the borrow; its token; the tokens; the last list; …; …; the samples; _10; …; to _0; …]
-          returns ! (look ! 28 refl) $ forget ! 8 refl $ forget ! 10 refl $ forget ! 12 refl $ forget ! 14 refl $ forget ! 16 refl $ forget ! 18 refl $ forget ! 20 refl $ forget ! 22 refl $ forget ! 24 refl $ forget ! 26 refl $ forget ! 28 refl $
-          move ! (28 ∷ 29 ∷ []) $ free1 ! $ move ! (26 ∷ 27 ∷ []) $ free1 ! $ move ! (24 ∷ 25 ∷ []) $ free1 ! $ move ! (22 ∷ 23 ∷ []) $ free1 ! $ move ! (20 ∷ 21 ∷ []) $ free1 ! $ move ! (18 ∷ 19 ∷ []) $ free1 ! $
-          move ! (16 ∷ 17 ∷ []) $ free1 ! $ move ! (14 ∷ 15 ∷ []) $ free1 ! $ move ! (12 ∷ 13 ∷ []) $ free1 ! $ move ! (10 ∷ 11 ∷ []) $ free1 ! $ move ! (8 ∷ 9 ∷ []) $ free1 ! $ free0 ! $
-          keep ! (0 ∷ 1 ∷ 2 ∷ 4 ∷ 7 ∷ 3 ∷ []) $ by ! (exits r zs.1.0 (told r v is) e l))))))))))))))))))))
+          returns ! (look ! 38 refl) $ forget ! 8 refl $ forget ! 10 refl $ forget ! 12 refl $ forget ! 14 refl $ forget ! 16 refl $ forget ! 18 refl $ forget ! 20 refl $ forget ! 22 refl $ forget ! 24 refl $ forget ! 26 refl $ forget ! 28 refl $ forget ! 30 refl $ forget ! 32 refl $ forget ! 34 refl $ forget ! 36 refl $ forget ! 38 refl $
+          move ! (38 ∷ 39 ∷ []) $ free1 ! $ move ! (36 ∷ 37 ∷ []) $ free1 ! $ move ! (34 ∷ 35 ∷ []) $ free1 ! $ move ! (32 ∷ 33 ∷ []) $ free1 ! $ move ! (30 ∷ 31 ∷ []) $ free1 ! $ move ! (28 ∷ 29 ∷ []) $ free1 ! $ move ! (26 ∷ 27 ∷ []) $ free1 ! $ move ! (24 ∷ 25 ∷ []) $ free1 ! $
+          move ! (22 ∷ 23 ∷ []) $ free1 ! $ move ! (20 ∷ 21 ∷ []) $ free1 ! $ move ! (18 ∷ 19 ∷ []) $ free1 ! $ move ! (16 ∷ 17 ∷ []) $ free1 ! $ move ! (14 ∷ 15 ∷ []) $ free1 ! $ move ! (12 ∷ 13 ∷ []) $ free1 ! $ move ! (10 ∷ 11 ∷ []) $ free1 ! $ move ! (8 ∷ 9 ∷ []) $ free1 ! $ free0 ! $
+          keep ! (0 ∷ 1 ∷ 2 ∷ 4 ∷ 7 ∷ 3 ∷ []) $ by ! (exits r zs.1.0 (told r v is) e l)))))))))))))))))))))))))
 
   walks : (C : Calls 𝓤 H) (Λ : Loops 𝓤 H) → FmC 𝓤 H 𝓛.laws C → Triple 𝓤 (C callee) (Core X answer output 𝓛) → Walks 𝓛 (ended X) (stayed X) (WpFn 𝓤 H C Λ (thin X.ty callee)) (clauses X answer output 𝓤)
   walks C Λ fm known = walked 𝓛 (ended X) (stayed X) (clauses X answer output 𝓤) (WpFn 𝓤 H C Λ (thin X.ty callee)) (λ κs. (mut_vals, (mut_slice_vals, (shr_slice_vals, (float_vals binary64, (float_vals binary32, ((λ x. X.val x ∷ []), tt)))))))

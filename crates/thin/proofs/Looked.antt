@@ -57,7 +57,7 @@ use Rattle.thin.proofs.ByValue.{One, answered, calling, answering, told, row, co
 -- ---- the code, by the last parameter's type and the callee
 abbrev pub thin : Ty → Callee → Fn
 thin τ callee =
-    calling (ty_ref (named 0) imm (pointee (T.the_row).written)) τ callee
+    calling (ty_ref (named 0) imm (pointee (T.the_row).written)) τ callee []
     answering
 
 -- ---- the signature and the contract, by the last parameter and by what is answered and written
