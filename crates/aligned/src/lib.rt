@@ -7,7 +7,7 @@ ghost use Rattle.lists.specs.Table.{table};
 ghost use Rattle.aligned.specs.Aligned.{first_frame, ends_within, played, aligned_sample, last_wrap, aligned_position};
 
 use frames::{frame_or_zero, smaller};
-use rounding::{round_away, truncate, whole};
+use rounding::{rem, round_away, truncate, whole};
 use seconds::{block_seconds, widened};
 
 // The index of the last sample of a block at which the loop started over.
@@ -79,7 +79,7 @@ pub fn aligned_position(position: f64, rate: f32, duration: f64, wrap: Wrap) -> 
 {
     match wrap {
         Wrap::Never => position + block_seconds(rate),
-        Wrap::At(i) => whole(128 - smaller(i, 128)) / widened(rate) % duration,
+        Wrap::At(i) => rem(whole(128 - smaller(i, 128)) / widened(rate), duration),
     }
 }
 

@@ -108,7 +108,7 @@ rem_exact f x y s t X Y p q h k P = go (leb b.j a.j) (leb→le b.j a.j) (nleb→
         (lt_of_le_of_lt (mod-le a.q m) a.short)
 
 -- ---- `rem_euclid` of a dividend that is not negative
-zero_value : (f : Format) → HasValue (of_bits f 0) false 0 1
+pub zero_value : (f : Format) → HasValue (of_bits f 0) false 0 1
 unfolding of_bits
 zero_value binary32 = (refl, refl)
 zero_value binary64 = (refl, refl)

@@ -14,4 +14,4 @@ returns-in-Never c = rw c.block_seconds.ensures (sym (ap (aligned_position 128 _
 
 pub returns-in-At : goal.returns-in-At
 unfolding aligned_position
-returns-in-At c = simp (c.whole.ensures, c.smaller.ensures, c.widened.ensures, span) (sym (ap (aligned_position 128 _ _ _) c.in-At.is))
+returns-in-At c = simp (c.rem.ensures, c.whole.ensures, c.smaller.ensures, c.widened.ensures, span) (sym (ap (aligned_position 128 _ _ _) c.in-At.is))

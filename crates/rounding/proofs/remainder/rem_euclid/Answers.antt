@@ -4,8 +4,8 @@ use Rattle.rounding.proofs.remainder.rem_euclid.Goals as goal
 
 pub returns-then-r : goal.returns-then-r
 unfolding rem_euclid
-returns-then-r c = simp (c.if-r.true, c.magnitude.ensures)
+returns-then-r c = rw (← c.rem-r.ensures) (simp (c.if-r.true, c.magnitude.ensures))
 
 pub returns-else-r : goal.returns-else-r
 unfolding rem_euclid
-returns-else-r c = simp c.if-r.false
+returns-else-r c = rw (← c.rem-r.ensures) (simp c.if-r.false)
