@@ -1,4 +1,4 @@
--- From the state before a block to what the long_run_lem statement says of the block. Assumes nothing.
+-- From the state before a block to what the long-run statement says of the block. Assumes nothing.
 use mathlib.Core.Path.{◌≡◌, refl, sym, ap, ap₂, ◌∙◌, subst}
 use mathlib.Core.Logic.{⊎_elim}
 use mathlib.Core.Bool.{Bool, true, false, cond, true≢false}

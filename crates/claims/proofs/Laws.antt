@@ -1,4 +1,4 @@
--- The float laws at a block of 128 samples, for one rate, as the steps of the long_run_lem proof cite them. Assumes nothing.
+-- The float laws at a block of 128 samples, for one rate, as the steps of the long-run proof cite them. Assumes nothing.
 use mathlib.Core.Path.{◌≡◌}
 use mathlib.Core.Bool.{true, false}
 use Prim.Native.Nat.{ℕ, suc, ◌+◌, ◌*◌, ◌^◌, ◌≤◌, ◌<◌}

@@ -1,4 +1,4 @@
--- The long_run_lem statement: from its premises to the player before the first block, and from there block by block. Assumes nothing.
+-- The long-run statement: from its premises to the player before the first block, and from there block by block. Assumes nothing.
 use mathlib.Core.Path.{◌≡◌, refl, sym, ap, ◌∙◌, subst}
 use mathlib.Core.Bool.{Bool, true, false, false≢true}
 use mathlib.Core.List.{List, [], ◌∷◌, ◌++◌}

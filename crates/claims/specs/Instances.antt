@@ -1,4 +1,4 @@
--- Lists of calls that meet the premises of the long_run_lem statement, one with blocks in cents, and one with previews. Definitions only.
+-- Lists of calls that meet the premises of the long-run statement, one with blocks in cents, and one with previews. Definitions only.
 use Rattle.std.specs.Prelude.{◌≡◌, true, false, List, [], ◌∷◌, ℕ, ◌+◌, T, ℤ, pos, negsuc, length, replicate, Float}
 use Rattle.std.specs.Float.{fin, binary32}
 use Rattle.std.specs.Float.Ieee.{fits}

@@ -1,4 +1,4 @@
--- The bits of a sub_sample block's samples (document 01, 'Sub-sample block'; the Rust's slow track), from a channel's frames. Definitions only.
+-- The bits of a sub-sample block's samples (document 01, 'Sub-sample block'; the Rust's slow track), from a channel's frames. Definitions only.
 use Rattle.std.specs.Prelude.{Bool, false, ◌||◌, cond, List, ℕ, ◌+◌, ◌-◌, min, ltb, eqb, get_or, Float}
 use Rattle.std.specs.Float.{nan, binary64}
 use Rattle.std.specs.Float.Ieee.{of_bits, sub, mul, le, eq, to_unsigned}

@@ -1,2 +1,2 @@
--- A sub_sample block's samples.
+-- A sub-sample block's samples.
 pub mod Interpolated

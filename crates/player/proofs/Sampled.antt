@@ -1,4 +1,4 @@
--- A sub_sample block's output by its three arrays is the output by its infos. Assumes nothing.
+-- A sub-sample block's output by its three arrays is the output by its infos. Assumes nothing.
 use mathlib.Core.Path.{◌≡◌, refl}
 use mathlib.Core.Bool.{false}
 use mathlib.Core.List.{List}

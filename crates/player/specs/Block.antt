@@ -96,7 +96,7 @@ aligned_plan n p time computed =
       sample = aligned_sample turns p.shape.frames (first_of p);
     }
 
--- ---- the sub_sample block
+-- ---- the sub-sample block
 -- a loop whose points are in order is itself; another is the whole clip
 unfoldable pub own_loop : Player → Bool
 own_loop p = le none p.loop_state.start.0 && lt none p.loop_state.end.0 && lt p.loop_state.start.0 p.loop_state.end.0

@@ -7,7 +7,7 @@ use std::io;
 
 // The kinds of order, in the order of the table in `order_of`: those that tell the player something,
 // the blocks, the previews, and the others that leave the player alone. A pattern names a kind by its
-// number, since it takes no constant.
+// number.
 pub const RATE: usize = 0;
 
 pub const START: usize = 1;

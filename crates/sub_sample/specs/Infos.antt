@@ -1,4 +1,4 @@
--- What the samples of a sub_sample block play, in three arrays: a frame, a fraction and a present flag for each
+-- What the samples of a sub-sample block play, in three arrays: a frame, a fraction and a present flag for each
 -- (document 01, 'From shared handles to lent frames'). Definitions only.
 use Rattle.std.specs.Prelude.{ℕ}
 use Rattle.lists.specs.Table.{table}

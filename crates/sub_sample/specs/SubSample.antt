@@ -1,4 +1,4 @@
--- The sub_sample block (document 01, 'Sub-sample block'; the Rust's slow track), sample by sample in the Rust's order. Definitions only.
+-- The sub-sample block (document 01, 'Sub-sample block'; the Rust's slow track), sample by sample in the Rust's order. Definitions only.
 use Rattle.std.specs.Prelude.{Bool, true, false, not, ◌&&◌, ◌||◌, cond, ℕ, zero, suc, ltb, Float}
 use Rattle.std.specs.Float.{binary64}
 use Rattle.std.specs.Float.Ieee.{add, sub, mul, lt, le, to_unsigned}
