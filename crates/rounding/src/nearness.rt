@@ -2,7 +2,7 @@
 ghost use Rattle.std.specs.Prelude.{◌≡◌};
 ghost use Rattle.rounding.specs.Near.{float_eq, larger, near, near_zero};
 
-use super::values::{magnitude, magnitude_f32};
+use super::binary_float::BinaryFloat;
 
 // 2^-26: the tolerance of `near` and `near_zero`.
 pub const NEAR_TOLERANCE: f64 = 0.00000001490116119384765625;
@@ -10,7 +10,8 @@ pub const NEAR_TOLERANCE: f64 = 0.00000001490116119384765625;
 // 0.1: the tolerance of `float_eq`.
 pub const RATE_TOLERANCE: f32 = 0.1;
 
-// b where a < b, and a otherwise.
+// b where a < b, and a otherwise. std's `max` answers otherwise where one is a NaN.
+#[tactic(auto, unfolding(crate::specs::Near::larger))]
 fn larger(a: f64, b: f64) -> f64
     ensures { result ≡ larger a b }
 {
@@ -18,28 +19,25 @@ fn larger(a: f64, b: f64) -> f64
 }
 
 // Equal, or apart by less than the tolerance times the larger magnitude.
+#[tactic(auto, unfolding(crate::specs::Near::near))]
 pub fn near(a: f64, b: f64, tolerance: f64) -> bool
     ensures { result ≡ near a b tolerance }
 {
-    if a == b {
-        true
-    } else {
-        let apart = magnitude(a - b);
-        let most = larger(magnitude(a), magnitude(b));
-        apart < tolerance * most
-    }
+    a == b || (a - b).magnitude() < tolerance * larger(a.magnitude(), b.magnitude())
 }
 
 // Within the tolerance of zero.
+#[tactic(auto, unfolding(crate::specs::Near::near_zero))]
 pub fn near_zero(a: f64, tolerance: f64) -> bool
     ensures { result ≡ near_zero a tolerance }
 {
-    magnitude(a) < tolerance
+    a.magnitude() < tolerance
 }
 
 // Apart by at most the tolerance.
+#[tactic(auto, unfolding(crate::specs::Near::float_eq))]
 pub fn float_eq(a: f32, b: f32, tolerance: f32) -> bool
     ensures { result ≡ float_eq a b tolerance }
 {
-    magnitude_f32(a - b) <= tolerance
+    (a - b).magnitude() <= tolerance
 }

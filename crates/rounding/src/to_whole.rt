@@ -38,10 +38,10 @@ fn half_up(d: u64, s: u64) -> u64
 pub fn floor(x: f64) -> f64
     ensures { result ≡ floor binary64 x }
 {
-    if x != x {
+    if x.is_nan() {
         return x;
     }
-    let b = f64::to_bits(x);
+    let b = x.to_bits();
     let place = place_of(b);
     if place >= 1074 {
         return x;
@@ -65,10 +65,10 @@ pub fn ceil(x: f64) -> f64
 pub fn round_away(x: f64) -> f64
     ensures { result ≡ round_away binary64 x }
 {
-    if x != x {
+    if x.is_nan() {
         return x;
     }
-    let b = f64::to_bits(x);
+    let b = x.to_bits();
     let place = place_of(b);
     if place >= 1074 {
         return x;
@@ -81,11 +81,5 @@ pub fn round_away(x: f64) -> f64
 pub fn truncate(x: f64) -> u64
     ensures { result ≡ truncate x }
 {
-    if x >= 18446744073709551616.0 {
-        0xffff_ffff_ffff_ffff
-    } else if x > -1.0 {
-        std::num::truncating_f64_to_u64(x)
-    } else {
-        0
-    }
+    std::num::saturating_f64_to_u64(x)
 }

@@ -5,10 +5,6 @@ use lib.Pow.{field}
 use Rattle.rounding.specs.Fields.{place}
 use Rattle.rounding.proofs.bits.place_of.Goals as goal
 
-pub returns-then-field-eq0 : goal.returns-then-field-eq0
+pub returns : goal.returns
 unfolding place
-returns-then-field-eq0 c = omega (arith, field c.args.b 11 52)
-
-pub returns-else-field-eq0 : goal.returns-else-field-eq0
-unfolding place
-returns-else-field-eq0 c = omega (arith, field c.args.b 11 52)
+returns c = let r = c.saturating_sub.ensures in omega (arith, field c.args.b 11 52)

@@ -4,7 +4,6 @@ use Rattle.std.proofs.Common.{ℕ, ◌+◌, ◌-◌, ◌/◌, ◌%◌, ◌^◌, 
 use lib.Pow.{shr_le}
 use lib.Ieee.Nearest.{closest}
 use Rattle.rounding.specs.Raise.{raise}
-use Rattle.rounding.proofs.Closest.{closest_one}
 use Rattle.rounding.proofs.Pattern.{closest_far}
 use Rattle.rounding.proofs.Raised.{closest_raise, raise_le}
 use Rattle.rounding.proofs.Sticky.{lost, power}
@@ -12,11 +11,6 @@ use Rattle.rounding.proofs.bits.rounded.Goals as goal
 
 small : (q n r : ℕ) → q ≤ n → n < 2 ^ 64 → r ≤ 1 → q / 2 + r < 2 ^ 64
 small q n r a b d = omega arith
-
-pub returns-then-e-eq0 : goal.returns-then-e-eq0
-returns-then-e-eq0 c =
-    let n = c.args.n in
-    sym (ap (λ (x : ℕ). closest n (2 ^ x)) c.if-e-eq0.true ∙ closest_one n)
 
 pub returns-then-e-gt64 : goal.returns-then-e-gt64
 returns-then-e-gt64 c =

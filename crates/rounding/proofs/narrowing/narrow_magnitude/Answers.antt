@@ -1,26 +1,13 @@
 -- `rounding::narrowing::narrow_magnitude` meets its contract. Assumes nothing.
-use Rattle.std.proofs.Common.{◌^◌, false, arith}
-use Rattle.rounding.proofs.Pattern.{closest_le}
+use Rattle.std.proofs.Common.{false, arith}
 use Rattle.rounding.proofs.Single.{high, middle, tiny}
 use Rattle.rounding.proofs.narrowing.narrow_magnitude.Goals as goal
 
-pub overflow_add-pattern : goal.overflow_add-pattern
-overflow_add-pattern c =
-    let le = closest_le c.args.digits (2 ^ 29) in
-    let e = c.rounded.ensures in
-    let l = c.requires in
-    record { fits = omega arith }
-
-pub returns-then-pattern-lt2139095040 : goal.returns-then-pattern-lt2139095040
-returns-then-pattern-lt2139095040 c =
+pub returns-then-place-ge896 : goal.returns-then-place-ge896
+returns-then-place-ge896 c =
     let law = high false c.args.digits c.args.place c.requires.0 c.if-place-ge896.true c.requires.2 in
     let e = c.rounded.ensures in
-    omega arith
-
-pub returns-else-pattern-lt2139095040 : goal.returns-else-pattern-lt2139095040
-returns-else-pattern-lt2139095040 c =
-    let law = high false c.args.digits c.args.place c.requires.0 c.if-place-ge896.true c.requires.2 in
-    let e = c.rounded.ensures in
+    let m = c.min.ensures in
     omega arith
 
 pub returns-then-place-ge871 : goal.returns-then-place-ge871

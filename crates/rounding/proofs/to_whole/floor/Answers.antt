@@ -1,19 +1,16 @@
 -- `rounding::to_whole::floor` meets its contract: the laws of `proofs/Wholes.antt`, by whether x is a NaN, whole, above zero or below. Assumes nothing.
 use Rattle.std.proofs.Common.{ℕ, ◌-◌, ◌^◌, ◌≤◌, true, false, T, sym, subst, le_trans, le_of_eq, le_of_lt, arith, pow_pos}
 use lib.Ieee.{binary64, to_bits}
-use Rattle.rounding.proofs.Read.{no_nan, is_nan_lem}
+use Rattle.rounding.proofs.Read.{told_no_nan, told_nan}
 use Rattle.rounding.proofs.Wholes.{cut_le, lifted_le_self, below, cast_fits, plus_sign, minus_sign, floor_part, floor_kept, floor_nan}
 use Rattle.rounding.proofs.to_whole.floor.Goals as goal
 
-pub returns-then-x : goal.returns-then-x
-returns-then-x c = floor_nan c.args.x (is_nan_lem c.args.x c.if-x.true)
-
-pub float_to_bits-b : goal.float_to_bits-b
-float_to_bits-b c = no_nan c.args.x c.if-x.false
+pub returns-then-is_nan : goal.returns-then-is_nan
+returns-then-is_nan c = floor_nan c.args.x (told_nan c.args.x _ c.is_nan.ensures.value c.if-is_nan.true)
 
 pub returns-then-place-ge1074 : goal.returns-then-place-ge1074
 returns-then-place-ge1074 c =
-    floor_kept c.args.x (subst T (sym c.well_formed.0.1) tt) (no_nan c.args.x c.if-x.false) (subst (λ (k : ℕ). 1074 ≤ k) c.place_of-place.ensures c.if-place-ge1074.true)
+    floor_kept c.args.x (subst T (sym c.well_formed.0.1) tt) (told_no_nan c.args.x _ c.is_nan.ensures.value c.if-is_nan.false) (subst (λ (k : ℕ). 1074 ≤ k) c.place_of-place.ensures c.if-place-ge1074.true)
 
 pub int_to_float-result : goal.int_to_float-result
 int_to_float-result c =

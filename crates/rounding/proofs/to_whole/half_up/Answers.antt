@@ -1,17 +1,9 @@
 -- `rounding::to_whole::half_up` meets its contract: `half_shift` at 2 ^ (s - 1). Assumes nothing.
-use Rattle.std.proofs.Common.{ℕ, ◌+◌, ◌-◌, ◌/◌, ◌^◌, sym, ap, ◌∙◌, arith, pow_pos}
-use lib.Pow.{shr_le}
+use Rattle.std.proofs.Common.{ℕ, ◌+◌, ◌-◌, ◌/◌, ◌^◌, sym, ap, ◌∙◌, pow_pos}
 use Rattle.rounding.specs.Rounding.{half_up}
 use Rattle.rounding.proofs.Sticky.{power}
 use Rattle.rounding.proofs.Wholes.{half_shift}
 use Rattle.rounding.proofs.to_whole.half_up.Goals as goal
-
-pub overflow_add-result : goal.overflow_add-result
-overflow_add-result c =
-    let l = shr_le c.args.d (c.args.s - 1) in
-    let e = c.cut.ensures in
-    let p = c.requires in
-    record { fits = omega arith }
 
 pub returns : goal.returns
 returns c =

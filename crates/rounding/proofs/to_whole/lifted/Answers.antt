@@ -1,23 +1,10 @@
 -- `rounding::to_whole::lifted` meets its contract: one more than what is cut where a remainder is left. Assumes nothing.
-use Rattle.std.proofs.Common.{ℕ, ◌+◌, ◌/◌, ◌%◌, ◌^◌, sym, ap, ◌∙◌, le_trans, le_of_eq, lt_of_lt_of_le, mod-eq_of_lt, zero-add, div-mul-le_self, arith, pow_pos, pow_mono}
+use Rattle.std.proofs.Common.{ℕ, ◌+◌, ◌/◌, ◌%◌, ◌^◌, sym, ap, ◌∙◌, lt_of_lt_of_le, mod-eq_of_lt, zero-add, pow_pos, pow_mono}
 use native.Mathlib.Nat.{div-eq_of_lt}
-use lib.Pow.{shr_le}
 use Rattle.rounding.specs.Sticky.{some}
-use Rattle.rounding.proofs.Sticky.{returned, rest}
+use Rattle.rounding.proofs.Sticky.{rest}
 use Rattle.rounding.proofs.Wholes.{lifted_some}
 use Rattle.rounding.proofs.to_whole.lifted.Goals as goal
-
-pub overflow_sub-d : goal.overflow_sub-d
-overflow_sub-d c =
-    let t = 2 ^ c.args.s in
-    le_trans (le_of_eq (returned c.args.d t c.ranges.d.fits)) (div-mul-le_self c.args.d t)
-
-pub overflow_add-result : goal.overflow_add-result
-overflow_add-result c =
-    let l = shr_le c.args.d c.args.s in
-    let e = c.some.ensures in
-    let p = c.requires in
-    record { fits = omega arith }
 
 pub returns-then-s-lt64 : goal.returns-then-s-lt64
 returns-then-s-lt64 c =

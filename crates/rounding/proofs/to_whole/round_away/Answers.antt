@@ -1,19 +1,16 @@
 -- `rounding::to_whole::round_away` meets its contract: the laws of `proofs/Wholes.antt`, by whether x is a NaN, whole, above zero or below. Assumes nothing.
 use Rattle.std.proofs.Common.{ℕ, ◌-◌, ◌≤◌, true, false, T, sym, subst, le_trans, le_of_eq, arith}
 use lib.Ieee.{binary64, to_bits}
-use Rattle.rounding.proofs.Read.{no_nan, is_nan_lem}
+use Rattle.rounding.proofs.Read.{told_no_nan, told_nan}
 use Rattle.rounding.proofs.Wholes.{half_le, below, cast_fits, plus_sign, minus_sign, away_part, away_kept, away_nan}
 use Rattle.rounding.proofs.to_whole.round_away.Goals as goal
 
-pub returns-then-x : goal.returns-then-x
-returns-then-x c = away_nan c.args.x (is_nan_lem c.args.x c.if-x.true)
-
-pub float_to_bits-b : goal.float_to_bits-b
-float_to_bits-b c = no_nan c.args.x c.if-x.false
+pub returns-then-is_nan : goal.returns-then-is_nan
+returns-then-is_nan c = away_nan c.args.x (told_nan c.args.x _ c.is_nan.ensures.value c.if-is_nan.true)
 
 pub returns-then-place-ge1074 : goal.returns-then-place-ge1074
 returns-then-place-ge1074 c =
-    away_kept c.args.x (subst T (sym c.well_formed.0.1) tt) (no_nan c.args.x c.if-x.false) (subst (λ (k : ℕ). 1074 ≤ k) c.place_of-place.ensures c.if-place-ge1074.true)
+    away_kept c.args.x (subst T (sym c.well_formed.0.1) tt) (told_no_nan c.args.x _ c.is_nan.ensures.value c.if-is_nan.false) (subst (λ (k : ℕ). 1074 ≤ k) c.place_of-place.ensures c.if-place-ge1074.true)
 
 pub half_up-n-requires : goal.half_up-n-requires
 half_up-n-requires c =

@@ -1,5 +1,5 @@
--- `rounding::values::is_finite` meets its contract: 1 / 0 and -1 / 0 are the infinities. Assumes nothing.
-use Rattle.std.proofs.Common.{◌≡◌, true, false, refl, true≢false}
+-- `rounding::values::is_finite` meets its contract: what is below one infinity and above the other. Assumes nothing.
+use Rattle.std.proofs.Common.{◌≡◌, true, false, refl, ◌∙◌, true≢false}
 use mathlib.Core.Bool.{false≢true}
 use lib.Ieee.{Float, nan, inf, fin, lt, neg, div, of_bits}
 use lib.Ieee.Scale.{finite}
@@ -24,4 +24,4 @@ returns-then-x c = below c.args.x c.if-x.true
 
 pub returns-else-x : goal.returns-else-x
 unfolding of_bits div
-returns-else-x c = not-below c.args.x c.if-x.false
+returns-else-x c = c.if-x.false ∙ not-below c.args.x c.if-x.false

@@ -47,4 +47,4 @@ unfolding of_bits
 returns-then-is_finite c = apart c.args.x (sym c.is_finite.ensures ∙ c.if-is_finite.true)
 
 pub returns-else-is_finite : goal.returns-else-is_finite
-returns-else-is_finite c = not_finite c.args.x (sym c.is_finite.ensures ∙ c.if-is_finite.false)
+returns-else-is_finite c = c.if-is_finite.false ∙ not_finite c.args.x (sym c.is_finite.ensures ∙ c.if-is_finite.false)
