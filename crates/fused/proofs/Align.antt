@@ -1,22 +1,16 @@
 -- The window of a fused product and sum: the product's digits p at the place x, and the digits g at the place y, in units of 2 ^ -2148, brought to a common place j.
 -- One of the two is a multiple of 2 ^ j, both fit, and what goes below 2 ^ j is not seen by the rounding. Assumes nothing.
-use Rattle.std.proofs.Common.{◌≡◌, ℕ, suc, ◌+◌, ◌-◌, ◌*◌, ◌%◌, ◌^◌, ◌<◌, ◌≤◌, Bool, true, false, not, T, ltb, ◌⊎◌, sym, refl, ap, ◌∙◌, inl, inr, le_trans, le_of_eq, lt_of_lt_of_le, le-add_right, le_of_lt, mul-le-mul_right, mul_assoc, add-mul, mul-lt-mul_of_pos_right, not-le_of_lt, le-add_left, arith, ltb→lt, nltb→le, pow_pos, pow_mono, pow-add}
+use Rattle.std.proofs.Common.{◌≡◌, ℕ, suc, ◌+◌, ◌-◌, ◌*◌, ◌%◌, ◌^◌, ◌<◌, ◌≤◌, ◌⊎◌, sym, refl, ap, ◌∙◌, inl, inr, le_trans, le_of_eq, lt_of_lt_of_le, le-add_right, le_of_lt, mul-le-mul_right, mul_assoc, add-mul, mul-lt-mul_of_pos_right, not-le_of_lt, le-add_left, arith, pow_pos, pow_mono, pow-add}
+use Rattle.std.proofs.lemmas.Bool.{cases_lt}
 use native.Mathlib.Nat.{mul-mod_left, pow-succ'}
 use lib.Ieee.{binary64}
 use Rattle.fused.specs.Sticky.{jam, Room, Window}
 use Rattle.fused.proofs.Jam.{OneWhole, jam_lt_pow, Sound}
 use Rattle.rounding.proofs.Sum.{mul_sub_r}
 
-split : (a b : ℕ) → (a < b) ⊎ (b ≤ a)
-split a b = go (ltb a b) (ltb→lt a b) (nltb→le a b)
-  where
-    go : (x : Bool) → (T x → a < b) → (T (not x) → b ≤ a) → (a < b) ⊎ (b ≤ a)
-    go true p q = inl (p tt)
-    go false p q = inr (q tt)
-
 -- ---- room
 pub room : (v e j b k : ℕ) → v < 2 ^ b → e ≤ j + k → b + (k + 1) ≤ 127 → Room v e j
-room v e j b k h l s = go (split e j)
+room v e j b k h l s = go (cases_lt e j)
   where
     go : (e < j) ⊎ (j ≤ e) → Room v e j
     go (inl m) = inl m
@@ -142,7 +136,7 @@ low_place a b j e = (inr (inr (low j e)), λ l. inr (inr (low j e)), λ l. inr (
 
 -- the product has 52 digits at least unless its place is 0; the other has 52 unless its place is the lowest, 1074
 pub all_sound : (p x g y j : ℕ) → p < 2 ^ 106 → g < 2 ^ 53 → (x ≡ 0) ⊎ (2 ^ 52 ≤ p) → (y ≡ 1074) ⊎ (2 ^ 52 ≤ g) → Window x y j → AllSound (p * 2 ^ x) (g * 2 ^ y) j
-all_sound p x g y j P G u v (inl w) = go (split y j) u
+all_sound p x g y j P G u v (inl w) = go (cases_lt y j) u
   where
     no : (x j : ℕ) → j + 18 ≡ x → x ≡ 0 → ⊥
     no x j e z = omega arith
@@ -157,7 +151,7 @@ all_sound p x g y j P G u v (inl w) = go (split y j) u
       where
         less : (j : ℕ) → 54 + j ≤ 70 + j
         less j = omega arith
-all_sound p x g y j P G u v (inr w) = go (split x j) v
+all_sound p x g y j P G u v (inr w) = go (cases_lt x j) v
   where
     up : (y j : ℕ) → j + 71 ≡ y → j ≤ y
     up y j e = omega arith

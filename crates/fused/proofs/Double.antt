@@ -2,7 +2,7 @@
 use Rattle.std.proofs.Common.{◌≡◌, ℕ, ◌+◌, ◌-◌, ◌*◌, ◌^◌, ◌<◌, ◌≤◌, min, Bool, cond, ap, ◌∙◌, subst, inr, lt_of_lt_of_le, arith, pow_mono}
 use lib.Ieee.{binary64, round, to_bits}
 use lib.Ieee.Nearest.{closest}
-use Rattle.rounding.proofs.Pattern.{at_high, at_low, closest_far}
+use Rattle.rounding.proofs.Pattern.{at_high, at_low}
 
 abbrev pub pat : Bool → ℕ → ℕ → ℕ
 pat s h t = to_bits binary64 (round binary64 s (h * 2 ^ t) (2 ^ 2148))
@@ -14,14 +14,10 @@ high s h t lo hi p =
     let e : t ≡ j + 1063 = omega arith in
     ap (λ (x : ℕ). pat s h x) e ∙ at_high binary64 s h j 1063 11 hi (inr lo)
 
--- a subnormal result
+-- a subnormal result, or 0
 pub middle : (s : Bool) (h t : ℕ) → h < 2 ^ 64 → t < 1063 → pat s h t ≡ cond s (2 ^ 63) 0 + closest h (2 ^ (1074 - t))
 middle s h t hi p =
     let e = 1074 - t in
     let q : 1074 + e + t ≡ 2148 = omega arith in
     subst (λ (x : ℕ). to_bits binary64 (round binary64 s (h * 2 ^ t) (2 ^ x)) ≡ cond s (2 ^ 63) 0 + closest h (2 ^ e)) q
     (at_low binary64 s h t e (lt_of_lt_of_le hi (pow_mono {i = 64} {j = 53 + e} (omega arith))))
-
--- less than half the smallest value
-pub tiny : (s : Bool) (h t : ℕ) → h < 2 ^ 64 → t < 1010 → pat s h t ≡ cond s (2 ^ 63) 0 + 0
-tiny s h t hi p = middle s h t hi (omega arith) ∙ ap (λ (x : ℕ). cond s (2 ^ 63) 0 + x) (closest_far h (1074 - t) hi (omega arith))

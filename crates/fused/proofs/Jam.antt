@@ -1,6 +1,7 @@
 -- A number with a sticky digit in the place of its low digits: how it goes with sums, differences and the order, and that rounding does not see the difference, nor that of sums of two signed fractions, in a format given as a parameter.
 -- Assumes nothing.
-use Rattle.std.proofs.Common.{◌≡◌, ℕ, zero, suc, ◌+◌, ◌-◌, ◌*◌, ◌/◌, ◌%◌, ◌^◌, ◌<◌, ◌≤◌, min, Bool, true, false, cond, not, T, ltb, leb, ◌⊎◌, sym, refl, ap, ◌∙◌, subst, inl, inr, le_trans, le_of_eq, lt_of_lt_of_le, lt_of_le_of_lt, add-zero, le_of_lt, add_assoc, mul-le-mul_right, mod-lt, mul_assoc, suc-mul, mul_comm, div-lt_iff_lt-mul, add-mul, add_comm, eq-or-lt_of_le, mul-lt-mul_of_pos_right, mul-pos, lt_of_not-le, div-add-mod', le-div_iff_mul-le, zero-mul, mul_right_comm, not-le_of_lt, le_of_mul-le-mul_right, mul-div_cancel, arith, ltb→lt, lt→ltb, leb→le, nltb→le, pow_pos, pow_mono, pow-add, le-ltb, lt-ltb}
+use Rattle.std.specs.Int.{from_bool}
+use Rattle.std.proofs.Common.{eqb, eq-eqb, ne_eqb, ◌≡◌, ℕ, zero, suc, ◌+◌, ◌-◌, ◌*◌, ◌/◌, ◌%◌, ◌^◌, ◌<◌, ◌≤◌, min, Bool, true, false, cond, not, T, ltb, leb, ◌⊎◌, sym, refl, ap, ◌∙◌, subst, inl, inr, le_trans, le_of_eq, lt_of_lt_of_le, lt_of_le_of_lt, add-zero, le_of_lt, add_assoc, mul-le-mul_right, mod-lt, mul_assoc, suc-mul, mul_comm, div-lt_iff_lt-mul, add-mul, add_comm, eq-or-lt_of_le, mul-lt-mul_of_pos_right, mul-pos, lt_of_not-le, div-add-mod', le-div_iff_mul-le, zero-mul, mul_right_comm, not-le_of_lt, le_of_mul-le-mul_right, mul-div_cancel, arith, ltb→lt, lt→ltb, leb→le, nltb→le, pow_pos, pow_mono, pow-add, le-ltb, lt-ltb}
 use native.Mathlib.Nat.{pow-succ'}
 use native.Mathlib.Nat.{mul-mod_left}
 use lib.Dec.{nleb→lt}
@@ -29,6 +30,11 @@ jam_at n t = refl
 
 pub jam_whole : (a t : ℕ) → 0 < t → jam (a * t) t ≡ a * 2
 jam_whole a t B = ap (λ (x : ℕ). jam x t) (sym (add-zero (a * t))) ∙ jam_is a 0 t B ∙ add-zero (a * 2)
+
+-- the code's sticky digit, where v is a and the rest r
+pub lost : (a r v : ℕ) → a + r ≡ v → from_bool (not (eqb v a)) ≡ some r
+lost a zero v e = ap (λ (x : Bool). from_bool (not x)) (eq-eqb v a (omega arith))
+lost a (suc r) v e = ap (λ (x : Bool). from_bool (not x)) (ne_eqb v a (λ q. omega arith)) ∙ omega arith
 
 jam_add : (a b t : ℕ) → 0 < t → jam (a * t + b) t ≡ a * 2 + jam b t
 jam_add a b t B =

@@ -2,10 +2,10 @@
 mod Align
 mod Bounds
 mod Double
+mod Finite
 mod Jam
 mod NearTie
 mod Product
 mod Side
 mod Twice
 mod Untied
-mod Words

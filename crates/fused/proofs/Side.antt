@@ -1,9 +1,8 @@
 -- On which side of a tie a sum lies, from its last 64 digits: the laws of `beside` and `near_tie` and of their parts, over whole numbers and patterns. Assumes nothing.
-use Rattle.std.proofs.Common.{◌≡◌, ℕ, zero, suc, ◌+◌, ◌-◌, ◌*◌, ◌/◌, ◌%◌, ◌^◌, ◌<◌, ◌≤◌, Bool, true, false, cond, eqb, ltb, leb, sym, refl, ap, ◌∙◌, subst, inl, mul-le-mul_right, mod-eq_of_lt, lt_of_mul-lt-mul_right, div-add-mod', arith, pow_pos, pow_mono, le-ltb, lt-ltb, leb-true}
-use mathlib.Core.Bool.{false≢true}
+use Rattle.std.proofs.Common.{◌≡◌, ℕ, zero, suc, ◌+◌, ◌-◌, ◌*◌, ◌/◌, ◌%◌, ◌^◌, ◌<◌, ◌≤◌, Bool, true, false, cond, eqb, ltb, sym, refl, ap, ◌∙◌, subst, inl, mul-le-mul_right, mod-eq_of_lt, lt_of_mul-lt-mul_right, arith, pow_pos, pow_mono, le-ltb, lt-ltb}
 use Prim.Native.Nat.{Ordering}
 use Prim.Native.Nat.{compare}
-use native.Mathlib.Nat.{mul-add-div_right, mul-add-mod_self_right, div-eq_of_lt, mod-add-mod, pow-succ'}
+use native.Mathlib.Nat.{mul-add-div_right, mul-add-mod_self_right, div-eq_of_lt, pow-succ'}
 use lib.Ieee.{binary64, nearest}
 use lib.Ieee.Nearest.{closest}
 use Rattle.rounding.specs.Fields.{field, digits, place}
@@ -16,7 +15,6 @@ use Rattle.rounding.proofs.Raised.{guard_clear, tie_raise, where_set}
 use Rattle.rounding.proofs.Read.{field_le}
 use Rattle.rounding.proofs.Sum.{Order, order, less, more, none}
 use Rattle.fused.proofs.Untied.{normal_digits, place_field, digits_are, place_is}
-use Rattle.fused.proofs.Words.{product_lt}
 
 -- ---- ties
 -- half way between w and the next number
@@ -74,15 +72,6 @@ low_sum half p p' q q' v w x i e a b c t =
     first : Low (v + i + (p + q)) (x + (p + q))
     first = shift (v + i) x (p + q) (omega arith)
 
--- a term that is taken away, or added
-pub low_taken : (t : Bool) (r v x : ℕ) → t ≡ true → (r + x) % 2 ^ 64 ≡ v → v < 2 ^ 64 → Low (r + cond t x 0) (v + cond t 0 x)
-low_taken true r v x e h l = omega arith
-low_taken false r v x e h l = absurd (false≢true e)
-
-pub low_added : (t : Bool) (r v x : ℕ) → t ≡ false → r ≡ (v + x) % 2 ^ 64 → Low (r + cond t x 0) (v + cond t 0 x)
-low_added true r v x e h = absurd (false≢true (sym e))
-low_added false r v x e h = omega arith
-
 -- v tells the distance
 module _ (v J e half K : ℕ) (twice : K ≡ 2 * half) (small : K ≤ 2 ^ 50) (short : v < 2 ^ 64) (near : Within (640 * K) e J) (low : (v + J) % 2 ^ 64 ≡ (e + half) % 2 ^ 64) where
   pub not-below : v < 2 ^ 63 → e + half ≡ J + v
@@ -91,20 +80,7 @@ module _ (v J e half K : ℕ) (twice : K ≡ 2 * half) (small : K ≤ 2 ^ 50) (s
   pub far_below : 2 ^ 63 ≤ v → e + half < J
   far_below h = omega arith
 
--- the product by halves
-pub high_lt : (a b : ℕ) → a < 2 ^ 53 → b < 2 ^ 24 → a / 2 ^ 32 * b < 2 ^ 45
-high_lt a b h k = product_lt (a / 2 ^ 32) b 21 24 (omega arith) k
-
-pub low_lt : (a b : ℕ) → b < 2 ^ 24 → a % 2 ^ 32 * b < 2 ^ 56
-low_lt a b k = product_lt (a % 2 ^ 32) b 32 24 (omega arith) k
-
-pub halves : (a b r : ℕ) → r ≡ (a / 2 ^ 32 * b * 2 ^ 32 % 2 ^ 64 + a % 2 ^ 32 * b) % 2 ^ 64 → r ≡ a * b % 2 ^ 64
-halves a b r e = e ∙ mod-add-mod (a / 2 ^ 32 * b * 2 ^ 32) (2 ^ 64) (a % 2 ^ 32 * b) ∙ ap (λ (x : ℕ). x % 2 ^ 64) (let d = ap (λ (x : ℕ). x * b) (div-add-mod' a (2 ^ 32)) in omega arith)
-
 -- ---- the tie beside a pattern
-pub beside_test : (n : ℕ) → 898 * 2 ^ 52 ≤ n → n < 1150 * 2 ^ 52 → leb ((n + 0x1000_0200) % 0x2000_0000) 1024 ≡ true → Beside n
-beside_test n lo hi e = let l = leb-true ((n + 0x1000_0200) % 0x2000_0000) 1024 e in record { least = lo; most = hi; above = omega arith; under = omega arith }
-
 -- an f32's digits below the tie, and the tie
 abbrev low_digits : ℕ → ℕ
 low_digits n = (2 ^ 52 + n % 2 ^ 52) / 2 ^ 29

@@ -1,14 +1,13 @@
 -- a * b + c rounded once is near a * b + c rounded after the product and after the sum, where the product is not large beside the sum (`fused_once`). So both narrow to the same f32, where the latter is apart from the ties (`Apart`). Assumes nothing.
-use Rattle.std.proofs.Common.{◌≡◌, ℕ, ◌+◌, ◌-◌, ◌*◌, ◌%◌, ◌^◌, ◌<◌, ◌≤◌, Bool, true, false, cond, not, T, eqb, ◌⊎◌, sym, refl, ap, ◌∙◌, subst, inl, inr, le_trans, le_of_lt, mul-le-mul_right, mod-lt, mul_assoc, eq-or-lt_of_le, mul-le-mul_left, mul-lt-mul_of_pos_right, mul-pos, arith, lit≤, pow_pos, pow_mono}
+use Rattle.std.proofs.Common.{◌≡◌, ℕ, ◌+◌, ◌-◌, ◌*◌, ◌%◌, ◌^◌, ◌<◌, ◌≤◌, Bool, true, false, cond, not, T, eqb, sym, refl, ap, ◌∙◌, subst, le_trans, le_of_lt, mul-le-mul_right, mod-lt, mul_assoc, mul-le-mul_left, mul-lt-mul_of_pos_right, mul-pos, arith, lit≤, pow_pos, pow_mono}
 use mathlib.Core.Bool.{beq, false≢true}
 use native.Mathlib.Nat.{eq_of_mul-eq-mul_right}
 use lib.Ieee.{Float, nan, inf, fin, Format, low, binary32, binary64, unlike, round, sum, neg, add, mul, fits, is_nan, to_bits}
-use lib.Ieee.Bits.{of_bits-to_bits}
 use lib.Ieee.Exact.{HasValue}
 use lib.Ieee.Fits.{round-fits, add-fits, mul-fits}
 use lib.Ieee.Scale.{finite, grid, overflow, round_val, round_under}
 use Rattle.fused.specs.Apart.{Apart}
-use Rattle.rounding.specs.Fields.{field, digits, place, negative}
+use Rattle.rounding.specs.Fields.{digits, place, negative}
 use Rattle.rounding.specs.Laws.{Within}
 use Rattle.rounding.specs.Rounding.{narrow, magnitude}
 use Rattle.fused.specs.Fused.{fma}
@@ -18,8 +17,10 @@ use Rattle.rounding.proofs.Exact.{two_values, value_unique}
 use Rattle.fused.proofs.Bounds.{Off, Linked, cancel_unit, product_above, product_below, linked_sum, linked_above, linked_below, sum_near, once_near, near_patterns, at_most_32}
 use Rattle.rounding.proofs.Operations.{add_value, mul_value}
 use Rattle.rounding.proofs.Pattern.{sign_apart}
+use Rattle.std.proofs.lemmas.Float.{T_from_true}
+use Rattle.fused.proofs.Finite.{of_finite}
 use Rattle.fused.proofs.Product.{fma_value}
-use Rattle.rounding.proofs.Read.{read, read_inf, field_le, digits_lt, digits_full, convert_value, no_nan_bits}
+use Rattle.rounding.proofs.Read.{read, digits_lt, digits_full, convert_value}
 use Rattle.rounding.proofs.SignBit.{low_pattern, magnitude_fits, of_low}
 use Rattle.rounding.proofs.Signs.{value_neg, round_not, magnitude_value}
 use Rattle.rounding.proofs.Single.{pat}
@@ -27,18 +28,18 @@ use Rattle.rounding.proofs.Sum.{sum_alike, sum_more, sum_less, sum_none, sum_sam
 use Rattle.fused.proofs.Untied.{Parts, parts, not_negative, below_ones, whole_pattern, same_pattern}
 
 -- ---- a finite result has finite operands
-finite_sum : (f : Format) (x y : Float) → T (finite (add f x y)) → (finite x ≡ true) × (finite y ≡ true)
+finite_sum : (f : Format) (x y : Float) → finite (add f x y) ≡ true → (finite x ≡ true) × (finite y ≡ true)
 unfolding add
-finite_sum f nan y h = absurd h
-finite_sum f (inf u) nan h = absurd h
+finite_sum f nan y h = absurd (false≢true h)
+finite_sum f (inf u) nan h = absurd (false≢true h)
 finite_sum f (inf u) (inf v) h = absurd (go (beq u v) h)
   where
-    go : (b : Bool) → T (finite (cond b (inf u) nan)) → ⊥
-    go true k = k
-    go false k = k
-finite_sum f (inf u) (fin v n d) h = absurd h
-finite_sum f (fin u m e) nan h = absurd h
-finite_sum f (fin u m e) (inf v) h = absurd h
+    go : (b : Bool) → finite (cond b (inf u) nan) ≡ true → ⊥
+    go true k = false≢true k
+    go false k = false≢true k
+finite_sum f (inf u) (fin v n d) h = absurd (false≢true h)
+finite_sum f (fin u m e) nan h = absurd (false≢true h)
+finite_sum f (fin u m e) (inf v) h = absurd (false≢true h)
 finite_sum f (fin u m e) (fin v n d) h = (refl, refl)
 
 finite_product : (f : Format) (x y : Float) → finite (mul f x y) ≡ true → (finite x ≡ true) × (finite y ≡ true)
@@ -60,24 +61,16 @@ finite_product f (fin u m e) (inf v) h = absurd (go (eqb m 0) h)
 finite_product f (fin u m e) (fin v n d) h = (refl, refl)
 
 -- ---- a value by the digits and the place of its pattern
-not_nan : (x : Float) (s : Bool) (a c : ℕ) → HasValue x s a c → T (not (is_nan x))
-unfolding is_nan
-not_nan nan s a c h = absurd h
-not_nan (inf t) s a c h = absurd h
-not_nan (fin t m e) s a c h = tt
+has_finite : (x : Float) (s : Bool) (i j : ℕ) → HasValue x s i j → finite x ≡ true
+has_finite nan s i j v = absurd v
+has_finite (inf u) s i j v = absurd v
+has_finite (fin u m g) s i j v = refl
 
 by_digits : (x : Float) (s : Bool) (a : ℕ) → T (fits binary64 x) → HasValue x s a (2 ^ 1074) → a ≡ digits binary64 (to_bits binary64 x) * 2 ^ place binary64 (to_bits binary64 x)
-by_digits x s a t h = go (eq-or-lt_of_le (field_le binary64 b))
-  where
-    b : ℕ
-    b = to_bits binary64 x
-
-    go : (field binary64 b ≡ 2047) ⊎ (field binary64 b < 2047) → a ≡ digits binary64 b * 2 ^ place binary64 b
-    go (inl e) = absurd (subst (λ (y : Float). HasValue y s a (2 ^ 1074)) (sym (of_bits-to_bits binary64 x t) ∙ read_inf binary64 b e (no_nan_bits binary64 x t (not_nan x s a (2 ^ 1074) h))) h)
-    go (inr l) =
-        eq_of_mul-eq-mul_right (2 ^ 1074) (pow_pos 1074) a (digits binary64 b * 2 ^ place binary64 b)
-        (two_values x s (negative binary64 b) a (2 ^ 1074) (digits binary64 b * 2 ^ place binary64 b) (2 ^ 1074) h
-        (subst (λ (y : Float). HasValue y (negative binary64 b) (digits binary64 b * 2 ^ place binary64 b) (2 ^ 1074)) (of_bits-to_bits binary64 x t) (read binary64 b l)))
+by_digits x s a t h =
+    let b : ℕ = to_bits binary64 x in
+    eq_of_mul-eq-mul_right (2 ^ 1074) (pow_pos 1074) a (digits binary64 b * 2 ^ place binary64 b)
+    (two_values x s (negative binary64 b) a (2 ^ 1074) (digits binary64 b * 2 ^ place binary64 b) (2 ^ 1074) h (of_finite x t (has_finite x s a (2 ^ 1074) h)).value)
 
 -- ---- a rounded fraction with either sign, narrowed
 round_value : (f : Format) (s : Bool) (a c : ℕ) → grid f a c < overflow f → HasValue (round f s a c) s (grid f a c) (2 ^ low f)
@@ -93,48 +86,27 @@ narrow_round s a c l =
     ∙ sign_apart binary32 s (grid binary64 a c) (2 ^ 1074)
     ∙ ap (λ (x : ℕ). cond s (2 ^ 31) 0 + to_bits binary32 (round binary32 false x (2 ^ 1074))) (by_digits (round binary64 false a c) false (grid binary64 a c) (round-fits binary64 false a c) (round_val binary64 a c l))
 
--- ---- a finite value by the digits and the place of its pattern, with its sign
-finite_no_nan : (x : Float) → T (finite x) → T (not (is_nan x))
-unfolding is_nan
-finite_no_nan nan h = absurd h
-finite_no_nan (inf s) h = tt
-finite_no_nan (fin s m e) h = tt
-
-pub by_pattern : (x : Float) → T (fits binary64 x) → T (finite x) → let b = to_bits binary64 x in HasValue x (negative binary64 b) (digits binary64 b * 2 ^ place binary64 b) (2 ^ 1074)
-by_pattern x t f = go (eq-or-lt_of_le (field_le binary64 b))
-  where
-    b : ℕ
-    b = to_bits binary64 x
-
-    go : (field binary64 b ≡ 2047) ⊎ (field binary64 b < 2047) → HasValue x (negative binary64 b) (digits binary64 b * 2 ^ place binary64 b) (2 ^ 1074)
-    go (inl e) = absurd (subst (λ (y : Float). T (finite y)) (sym (of_bits-to_bits binary64 x t) ∙ read_inf binary64 b e (no_nan_bits binary64 x t (finite_no_nan x f))) f)
-    go (inr l) = subst (λ (y : Float). HasValue y (negative binary64 b) (digits binary64 b * 2 ^ place binary64 b) (2 ^ 1074)) (of_bits-to_bits binary64 x t) (read binary64 b l)
-
-has_finite : (x : Float) (s : Bool) (i j : ℕ) → HasValue x s i j → T (finite x)
-has_finite nan s i j v = absurd v
-has_finite (inf u) s i j v = absurd v
-has_finite (fin u m g) s i j v = tt
-
-finite_neg : (x : Float) → T (finite (neg x)) → T (finite x)
+-- ---- finite values
+finite_neg : (x : Float) → finite (neg x) ≡ true → finite x ≡ true
 unfolding neg
 finite_neg nan h = h
 finite_neg (inf s) h = h
-finite_neg (fin s m e) h = tt
+finite_neg (fin s m e) h = refl
 
-under_any : (f : Format) (s : Bool) (a c : ℕ) → T (finite (round f s a c)) → grid f a c < overflow f
-under_any f false a c h = round_under f a c h
-under_any f true a c h = round_under f a c (finite_neg (round f false a c) (subst (λ (x : Float). T (finite x)) (round_not f false a c) h))
+under_any : (f : Format) (s : Bool) (a c : ℕ) → finite (round f s a c) ≡ true → grid f a c < overflow f
+under_any f false a c h = round_under f a c (T_from_true _ h)
+under_any f true a c h = round_under f a c (T_from_true _ (finite_neg (round f false a c) (subst (λ (x : Float). finite x ≡ true) (round_not f false a c) h)))
 
-same_sign : (x : Float) (s t : Bool) (a c b d : ℕ) → HasValue x s a c → HasValue x t b d → t ≡ s
+same_sign : (x : Float) (s t : Bool) (a c b d : ℕ) → HasValue x s a c → HasValue x t b d → s ≡ t
 same_sign nan s t a c b d h k = absurd h
 same_sign (inf u) s t a c b d h k = absurd h
-same_sign (fin u m e) s t a c b d h k = sym k.0 ∙ h.0
+same_sign (fin u m e) s t a c b d h k = sym h.0 ∙ k.0
 
-finite_magnitude : (x : Float) → T (finite (magnitude x)) → T (finite x)
+finite_magnitude : (x : Float) → finite (magnitude x) ≡ true → finite x ≡ true
 unfolding magnitude
 finite_magnitude nan h = h
 finite_magnitude (inf s) h = h
-finite_magnitude (fin s m e) h = tt
+finite_magnitude (fin s m e) h = refl
 
 -- ---- the numbers
 not_over : (T Y D u E : ℕ) → T ≤ 66 * (Y * D) + D → 66 * Y + 1 < E * u → 0 < D → T < E * (D * u)
@@ -205,7 +177,7 @@ module _ (N D C b : ℕ) (pos : 0 < D) (g : Parts b (digits binary64 b) (place b
   value_of : (s : Bool) (q : ℕ) → y ≡ round binary64 s q (2 ^ 1074) → HasValue y s (grid binary64 q (2 ^ 1074)) (2 ^ 1074)
   value_of s q e =
       subst (λ (z : Float). HasValue z s (grid binary64 q (2 ^ 1074)) (2 ^ 1074)) (sym e)
-      (round_value binary64 s q (2 ^ 1074) (under_any binary64 s q (2 ^ 1074) (subst (λ (z : Float). T (finite z)) e (finite_magnitude y (has_finite (magnitude y) false _ _ v)))))
+      (round_value binary64 s q (2 ^ 1074) (under_any binary64 s q (2 ^ 1074) (subst (λ (z : Float). finite z ≡ true) e (finite_magnitude y (has_finite (magnitude y) false _ _ v)))))
 
   rounded_to : (s : Bool) (q : ℕ) → y ≡ round binary64 s q (2 ^ 1074) → grid binary64 q (2 ^ 1074) ≡ Y
   unfolding Y
@@ -314,9 +286,9 @@ fused_once a b c ta tb tc np ny l g =
     let gy = finite_magnitude y (has_finite (magnitude y) false Y u v) in
     let fs = finite_sum binary64 p c gy in
     let ff = finite_product binary64 a b fs.0 in
-    let va = by_pattern a ta (true_is (finite a) ff.0) in
-    let vb = by_pattern b tb (true_is (finite b) ff.1) in
-    let vc = by_pattern c tc (true_is (finite c) fs.1) in
+    let va = (of_finite a ta ff.0).value in
+    let vb = (of_finite b tb ff.1).value in
+    let vc = (of_finite c tc fs.1).value in
     let sa : Bool = negative binary64 (to_bits binary64 a) in
     let sb : Bool = negative binary64 (to_bits binary64 b) in
     let sc : Bool = negative binary64 (to_bits binary64 c) in
@@ -327,7 +299,7 @@ fused_once a b c ta tb tc np ny l g =
     let P : ℕ = grid binary64 (A * B) (u * u) in
     let ep : p ≡ round binary64 S (A * B) (u * u) = mul_value binary64 a b sa sb A u B u (pow_pos 1074) (pow_pos 1074) va vb in
     let vp : HasValue p S P u =
-    subst (λ (x : Float). HasValue x S P u) (sym ep) (round_value binary64 S (A * B) (u * u) (under_any binary64 S (A * B) (u * u) (subst (λ (x : Float). T (finite x)) ep (true_is (finite p) fs.0)))) in
+    subst (λ (x : Float). HasValue x S P u) (sym ep) (round_value binary64 S (A * B) (u * u) (under_any binary64 S (A * B) (u * u) (subst (λ (x : Float). finite x ≡ true) ep fs.0))) in
     let i : ℕ = to_bits binary64 p % 2 ^ 63 in
     let ei : P ≡ digits binary64 i * 2 ^ place binary64 i =
     subst (λ (x : ℕ). P ≡ digits binary64 x * 2 ^ place binary64 x) (sym (low_pattern binary64 p fp np)) (by_digits (magnitude p) false P (magnitude_fits binary64 p fp) (magnitude_value p S P u vp)) in
@@ -339,15 +311,12 @@ fused_once a b c ta tb tc np ny l g =
     ∙ sum_same binary64 S sc (P * u) (C * u) (u * u) P C u (mul-pos (pow_pos 1074) (pow_pos 1074)) (pow_pos 1074) (shared P u) (shared C u) in
     let ex = fma_value binary64 a b c sa sb sc A u B u C u (pow_pos 1074) (pow_pos 1074) (pow_pos 1074) va vb vc in
     let r = either (A * B) (u * u) C n (mul-pos (pow_pos 1074) (pow_pos 1074)) g most (fma binary64 a b c) y v S sc ey ex in
-    let hs : r.s ≡ negative binary64 (to_bits binary64 y) = sym (same_sign y r.s (negative binary64 (to_bits binary64 y)) Y u _ u r.value (by_pattern y fy gy)) in
-    let hp : S ≡ negative binary64 (to_bits binary64 p) = sym (same_sign p S (negative binary64 (to_bits binary64 p)) P u _ u vp (by_pattern p fp (true_is (finite p) fs.0))) in
+    let hs : r.s ≡ negative binary64 (to_bits binary64 y) = same_sign y r.s (negative binary64 (to_bits binary64 y)) Y u _ u r.value (of_finite y fy gy).value in
+    let hp : S ≡ negative binary64 (to_bits binary64 p) = same_sign p S (negative binary64 (to_bits binary64 p)) P u _ u vp (of_finite p fp fs.0).value in
     subst (λ (z : Bool). Once (A * B) (u * u) C d k (fma binary64 a b c) z sc (negative binary64 (to_bits binary64 y))) hp (subst (λ (z : Bool). Once (A * B) (u * u) C d k (fma binary64 a b c) S sc z) hs r.once)
   where
     ordered : (i j k n : ℕ) → i ≡ k → j ≡ n → k ≤ n + 5 * 2 ^ 52 → i ≤ j + 5 * 2 ^ 52
     ordered i j k n e f l = omega arith
-
-    true_is : (t : Bool) → t ≡ true → T t
-    true_is t e = subst T (sym e) tt
 
 -- it does not overflow
 pub once_under : (N D C b : ℕ) (x : Float) (S t s : Bool) → 0 < D → Parts b (digits binary64 b) (place binary64 b) → (w : Once N D C (digits binary64 b) (place binary64 b) x S t s)

@@ -6,7 +6,7 @@ use Rattle.rounding.specs.Sticky.{some}
 unfoldable pub jam : ℕ → ℕ → ℕ
 jam n t = n / t * 2 + some (n % t)
 
--- digits v at the place e, twice as many at the place j: they go down, or they fit two words
+-- digits v at the place e, twice as many at the place j: they go down, or they fit 128 digits
 abbrev pub Room : ℕ → ℕ → ℕ → Type 0
 Room v e j = (e < j) ⊎ ((e - j + 1 < 128) × (v * 2 ^ (e - j + 1) < 2 ^ 128))
 

@@ -1,57 +1,41 @@
 -- `fused::fused::fma` meets its contract: `fused` for finite values whose product is not zero, and otherwise the product is exact. Assumes nothing.
-use Rattle.std.proofs.Common.{◌≡◌, ℕ, zero, suc, ◌+◌, ◌*◌, ◌^◌, ◌<◌, Bool, true, not, T, ◌⊎◌, sym, refl, ap, ◌∙◌, subst, inl, inr, true≢false, lt_irrefl, zero-lt-suc, mul_assoc, eq-or-lt_of_le, mul-pos, zero-mul, pow_pos, pow-add}
+use Rattle.std.proofs.Common.{◌≡◌, ℕ, zero, suc, ◌+◌, ◌*◌, ◌^◌, ◌<◌, Bool, true, not, T, sym, refl, ap, ◌∙◌, subst, inl, inr, lt_irrefl, zero-lt-suc, mul_assoc, mul-pos, zero-mul, pow_pos, pow-add}
 use mathlib.Core.Bool.{false≢true}
+use Rattle.std.proofs.lemmas.Float.{T_from_true}
 use native.Mathlib.Nat.{mul-mul-mul_comm}
-use lib.Ieee.{Float, nan, inf, fin, binary64, down, unlike, sum, fits, is_nan, nan_bits, of_bits, to_bits}
+use lib.Ieee.{Float, nan, inf, fin, binary64, down, unlike, sum, fits, nan_bits, of_bits, to_bits}
 use lib.Ieee.Bits.{of_bits-to_bits}
 use lib.Ieee.Exact.{HasValue}
 use lib.Ieee.Fits.{up_pos}
 use lib.Ieee.Scale.{finite}
-use Rattle.rounding.specs.Fields.{field, digits, place, negative}
+use Rattle.rounding.specs.Fields.{digits, place, negative}
 use Rattle.rounding.specs.Rounding.{regular}
 use Rattle.fused.specs.Fused.{fma}
+use Rattle.fused.proofs.Finite.{Finite, of_finite}
 use Rattle.fused.proofs.Product.{fma_value, irregular, not_finite, sum_no_nan, sum_fits}
-use Rattle.rounding.proofs.Read.{read, read_inf, field_le, no_nan_bits}
+use Rattle.rounding.proofs.Read.{no_nan_bits}
 use Rattle.rounding.proofs.Sum.{sum_same}
 use Rattle.fused.proofs.fused.fma.Goals as goal
-use Rattle.fused.proofs.fused.fma.Goals.{then-is_regular+else-is_regular-2, else-is_regular}
+use Rattle.fused.proofs.fused.fma.Goals.{else-is_regular-via-then-is_regular+else-is_regular-2, else-is_regular-via-else-is_regular}
 
 -- ---- finite values
-regular-finite : (x : Float) → regular x ≡ true → finite x ≡ true
+regular_finite : (x : Float) → regular x ≡ true → finite x ≡ true
 unfolding regular
-regular-finite nan e = absurd (false≢true e)
-regular-finite (inf s) e = absurd (false≢true e)
-regular-finite (fin s m k) e = refl
+regular_finite nan e = absurd (false≢true e)
+regular_finite (inf s) e = absurd (false≢true e)
+regular_finite (fin s m k) e = refl
 
-finite_no_nan : (x : Float) → finite x ≡ true → T (not (is_nan x))
-unfolding is_nan
-finite_no_nan nan e = absurd (false≢true e)
-finite_no_nan (inf s) e = absurd (false≢true e)
-finite_no_nan (fin s m k) e = tt
+of_regular : (x : Float) → fits binary64 x ≡ true → regular x ≡ true → Finite x
+of_regular x h e = of_finite x (T_from_true _ h) (regular_finite x e)
 
-finite-field : (x : Float) → T (fits binary64 x) → finite x ≡ true → field binary64 (to_bits binary64 x) < 2047
-finite-field x h e = go (eq-or-lt_of_le (field_le binary64 (to_bits binary64 x)))
-  where
-    go : (field binary64 (to_bits binary64 x) ≡ 2047) ⊎ (field binary64 (to_bits binary64 x) < 2047) → field binary64 (to_bits binary64 x) < 2047
-    go (inl f) =
-        let i = read_inf binary64 (to_bits binary64 x) f (no_nan_bits binary64 x h (finite_no_nan x e)) in
-        absurd (true≢false (sym e ∙ ap finite (sym (of_bits-to_bits binary64 x h) ∙ i)))
-    go (inr l) = l
-
--- the value, by the digits and the place of its pattern
-value : (x : Float) → T (fits binary64 x) → finite x ≡ true → HasValue x (negative binary64 (to_bits binary64 x)) (digits binary64 (to_bits binary64 x) * 2 ^ place binary64 (to_bits binary64 x)) (2 ^ 1074)
-value x h e =
-    let b = to_bits binary64 x in
-    subst (λ (y : Float). HasValue y (negative binary64 b) (digits binary64 b * 2 ^ place binary64 b) (2 ^ 1074)) (of_bits-to_bits binary64 x h) (read binary64 b (finite-field x h e))
-
-some-digits : (x : Float) (s : Bool) (d k : ℕ) → regular x ≡ true → HasValue x s (d * 2 ^ k) (2 ^ 1074) → 0 < d
+some_digits : (x : Float) (s : Bool) (d k : ℕ) → regular x ≡ true → HasValue x s (d * 2 ^ k) (2 ^ 1074) → 0 < d
 unfolding regular
-some-digits nan s d k e v = absurd v
-some-digits (inf t) s d k e v = absurd v
-some-digits (fin t zero g) s d k e v = absurd (false≢true e)
-some-digits (fin t (suc m) g) s zero k e v =
+some_digits nan s d k e v = absurd v
+some_digits (inf t) s d k e v = absurd v
+some_digits (fin t zero g) s d k e v = absurd (false≢true e)
+some_digits (fin t (suc m) g) s zero k e v =
     absurd (lt_irrefl 0 (subst (λ (x : ℕ). 0 < x) (v.1 ∙ ap (λ (x : ℕ). x * down g) (zero-mul (2 ^ k)) ∙ zero-mul (down g)) (mul-pos (mul-pos (zero-lt-suc m) (up_pos g)) (pow_pos 1074))))
-some-digits (fin t (suc m) g) s (suc d) k e v = zero-lt-suc d
+some_digits (fin t (suc m) g) s (suc d) k e v = zero-lt-suc d
 
 -- ---- the definition, by the patterns
 scaled : (a b c p q r : ℕ) (s t : Bool) →
@@ -68,34 +52,32 @@ summed x y z =
     let c = to_bits binary64 z in
     sum binary64 (unlike (negative binary64 a) (negative binary64 b)) (digits binary64 a * digits binary64 b * 2 ^ (place binary64 a + place binary64 b)) (negative binary64 c) (digits binary64 c * 2 ^ (place binary64 c + 1074)) (2 ^ 2148)
 
-is-summed : (x y z : Float) → T (fits binary64 x) → T (fits binary64 y) → T (fits binary64 z) → finite x ≡ true → finite y ≡ true → finite z ≡ true → fma binary64 x y z ≡ summed x y z
-is-summed x y z X Y Z e f g =
+is_summed : (x y z : Float) → Finite x → Finite y → Finite z → fma binary64 x y z ≡ summed x y z
+is_summed x y z X Y Z =
     let a = to_bits binary64 x in
     let b = to_bits binary64 y in
     let c = to_bits binary64 z in
     fma_value binary64 x y z (negative binary64 a) (negative binary64 b) (negative binary64 c) (digits binary64 a * 2 ^ place binary64 a) (2 ^ 1074) (digits binary64 b * 2 ^ place binary64 b) (2 ^ 1074) (digits binary64 c * 2 ^ place binary64 c) (2 ^ 1074)
-    (pow_pos 1074) (pow_pos 1074) (pow_pos 1074) (value x X e) (value y Y f) (value z Z g)
+    (pow_pos 1074) (pow_pos 1074) (pow_pos 1074) X.value Y.value Z.value
     ∙ scaled (digits binary64 a) (digits binary64 b) (digits binary64 c) (place binary64 a) (place binary64 b) (place binary64 c) (unlike (negative binary64 a) (negative binary64 b)) (negative binary64 c)
 
 pub float_to_bits-a : goal.float_to_bits-a
-float_to_bits-a c = finite_no_nan _ (regular-finite _ (sym c.is_regular.ensures ∙ c.if-is_regular.true))
+float_to_bits-a c = (of_regular c.args.a c.well_formed.0.1 (sym c.is_regular.ensures ∙ c.if-is_regular.true)).number
 
 pub float_to_bits-b : goal.float_to_bits-b
-float_to_bits-b c = finite_no_nan _ (regular-finite _ (sym c.is_regular-then-is_regular.ensures ∙ c.if-is_regular-2.true))
+float_to_bits-b c = (of_regular c.args.b c.well_formed.1.0.1 (sym c.is_regular-then-is_regular.ensures ∙ c.if-is_regular-2.true)).number
 
 pub float_to_bits-c : goal.float_to_bits-c
-float_to_bits-c c = finite_no_nan _ (sym c.is_finite.ensures ∙ c.if-is_finite.true)
+float_to_bits-c c = (of_finite c.args.c (T_from_true _ c.well_formed.1.1.0.1) (sym c.is_finite.ensures ∙ c.if-is_finite.true)).number
 
 pub fused-requires : goal.fused-requires
 fused-requires c =
-    let a = regular-finite c.args.a (sym c.is_regular.ensures ∙ c.if-is_regular.true) in
-    let b = regular-finite c.args.b (sym c.is_regular-then-is_regular.ensures ∙ c.if-is_regular-2.true) in (
-      finite-field c.args.a (subst T (sym c.well_formed.0.1) tt) a,
-      finite-field c.args.b (subst T (sym c.well_formed.1.0.1) tt) b,
-      finite-field c.args.c (subst T (sym c.well_formed.1.1.0.1) tt) (sym c.is_finite.ensures ∙ c.if-is_finite.true),
-      some-digits c.args.a _ _ _ (sym c.is_regular.ensures ∙ c.if-is_regular.true) (value c.args.a (subst T (sym c.well_formed.0.1) tt) a),
-      some-digits c.args.b _ _ _ (sym c.is_regular-then-is_regular.ensures ∙ c.if-is_regular-2.true) (value c.args.b (subst T (sym c.well_formed.1.0.1) tt) b),
-    )
+    let r = sym c.is_regular.ensures ∙ c.if-is_regular.true in
+    let s = sym c.is_regular-then-is_regular.ensures ∙ c.if-is_regular-2.true in
+    let a = of_regular c.args.a c.well_formed.0.1 r in
+    let b = of_regular c.args.b c.well_formed.1.0.1 s in
+    let d = of_finite c.args.c (T_from_true _ c.well_formed.1.1.0.1) (sym c.is_finite.ensures ∙ c.if-is_finite.true) in
+    (a.small, b.small, d.small, some_digits c.args.a _ _ _ r a.value, some_digits c.args.b _ _ _ s b.value)
 
 pub float_from_bits-result : goal.float_from_bits-result
 float_from_bits-result c =
@@ -104,19 +86,21 @@ float_from_bits-result c =
 
 pub returns-then-is_finite : goal.returns-then-is_finite
 returns-then-is_finite c =
-    let v = summed c.args.a c.args.b c.args.c in
     ap (of_bits binary64) c.fused.ensures
-    ∙ of_bits-to_bits binary64 v (sum_fits binary64 _ _ _ _ _)
-    ∙ sym (is-summed c.args.a c.args.b c.args.c (subst T (sym c.well_formed.0.1) tt) (subst T (sym c.well_formed.1.0.1) tt) (subst T (sym c.well_formed.1.1.0.1) tt) (regular-finite c.args.a (sym c.is_regular.ensures ∙ c.if-is_regular.true)) (regular-finite c.args.b (sym c.is_regular-then-is_regular.ensures ∙ c.if-is_regular-2.true)) (sym c.is_finite.ensures ∙ c.if-is_finite.true))
+    ∙ of_bits-to_bits binary64 (summed c.args.a c.args.b c.args.c) (sum_fits binary64 _ _ _ _ _)
+    ∙ sym (is_summed c.args.a c.args.b c.args.c
+    (of_regular c.args.a c.well_formed.0.1 (sym c.is_regular.ensures ∙ c.if-is_regular.true))
+    (of_regular c.args.b c.well_formed.1.0.1 (sym c.is_regular-then-is_regular.ensures ∙ c.if-is_regular-2.true))
+    (of_finite c.args.c (T_from_true _ c.well_formed.1.1.0.1) (sym c.is_finite.ensures ∙ c.if-is_finite.true)))
 
-pub returns-then-is_regular-2 : goal.returns-then-is_regular-2
-returns-then-is_regular-2 c =
+pub returns-else-is_finite : goal.returns-else-is_finite
+returns-else-is_finite c =
     not_finite binary64 c.args.a c.args.b c.args.c (sym c.is_regular.ensures ∙ c.if-is_regular.true) (sym c.is_regular-then-is_regular.ensures ∙ c.if-is_regular-2.true) (sym c.is_finite.ensures ∙ c.if-is_finite.false)
 
-pub returns : goal.returns
-returns c =
+pub returns-else-is_regular : goal.returns-else-is_regular
+returns-else-is_regular c =
     irregular binary64 c.args.a c.args.b c.args.c
-    (elim c.if-is_regular.branch [
-      | then-is_regular+else-is_regular-2 w ↦ inr (sym w.is_regular-then-is_regular.ensures ∙ w.if-is_regular-2.false)
-      | else-is_regular w ↦ inl (sym c.is_regular.ensures ∙ w.if-is_regular.false)
+    (elim c.else-is_regular.branch [
+      | else-is_regular-via-then-is_regular+else-is_regular-2 w ↦ inr (sym w.is_regular-then-is_regular.ensures ∙ w.if-is_regular-2.false)
+      | else-is_regular-via-else-is_regular w ↦ inl (sym c.is_regular.ensures ∙ w.if-is_regular.false)
     ])

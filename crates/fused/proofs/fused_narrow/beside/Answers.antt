@@ -1,5 +1,5 @@
 -- `fused::fused_narrow::beside` meets its contract. Assumes nothing.
-use Rattle.std.proofs.Common.{◌≡◌, ℕ, ◌+◌, ◌-◌, ◌*◌, ◌/◌, ◌%◌, ◌^◌, sym, subst, le_trans, le_of_eq, arith, rules}
+use Rattle.std.proofs.Common.{ℕ, ◌+◌, ◌-◌, ◌/◌, ◌^◌, sym, subst, le_trans, le_of_eq, arith}
 use Rattle.rounding.proofs.Raised.{raise_le}
 use Rattle.fused.specs.Tied.{Sided}
 use Rattle.fused.proofs.Side.{sided}
@@ -12,6 +12,5 @@ pub returns : goal.returns
 returns c =
     let a = c.args in
     subst (λ (x : ℕ). Sided a.size a.j a.p a.q a.m a.c (a.size / 2 ^ 29 - 0x1_c000_0000 + x)) (sym c.raise.ensures)
-    (sided a.size a.j a.p a.q a.m a.c c.joined.result c.joined-sum.result c.wrapping_sub_u64-above.result c.requires.0 c.requires.1 c.requires.2 (search rules)
-    c.joined.ensures c.joined-sum.ensures
-    (subst (λ (d : ℕ). (c.wrapping_sub_u64-above.result + (d / 2 ^ 29 * 2 ^ 29 + 2 ^ 28) * 2 ^ a.j % 2 ^ 64) % 2 ^ 64 ≡ c.joined-sum.result) c.full_digits.ensures c.wrapping_sub_u64-above.ensures.value))
+    (sided a.size a.j a.p a.q a.m a.c c.joined.result c.joined-sum.result _ c.requires.0 c.requires.1 c.requires.2 (omega arith)
+    c.joined.ensures c.joined-sum.ensures (rw c.full_digits.ensures (omega arith)))

@@ -1,5 +1,5 @@
 -- `fused::fused_narrow::untied` meets its contract. Assumes nothing.
-use Rattle.std.proofs.Common.{ℕ, ◌+◌, ◌-◌, ◌/◌, sym, refl, subst, inl, inr, le_trans, le_of_eq, arith}
+use Rattle.std.proofs.Common.{ℕ, ◌+◌, ◌-◌, ◌/◌, sym, refl, subst, le_trans, le_of_eq, arith}
 use Rattle.rounding.proofs.Raised.{raise_le}
 use Rattle.fused.specs.Apart.{Apart}
 use Rattle.fused.proofs.Untied.{apart}
@@ -11,14 +11,6 @@ overflow_add-result c = let l = le_trans (le_of_eq c.raise.ensures) (raise_le _ 
 pub returns-then-past-lt536869887 : goal.returns-then-past-lt536869887
 returns-then-past-lt536869887 c =
     let b = c.args.bits in
-    inr (subst (λ (x : ℕ). Apart b (b / 0x2000_0000 + x - 0x1_c000_0000)) (sym c.raise.ensures)
-    (apart b _ _ c.if-bits-ge4044232465378705408.true c.if-bits-lt5179139571476070400.true refl c.if-past-lt536869887.true))
-
-pub returns-else-past-lt536869887 : goal.returns-else-past-lt536869887
-returns-else-past-lt536869887 c = inl refl
-
-pub returns-else-bits-lt5179139571476070400 : goal.returns-else-bits-lt5179139571476070400
-returns-else-bits-lt5179139571476070400 c = inl refl
-
-pub returns-else-bits-ge4044232465378705408 : goal.returns-else-bits-ge4044232465378705408
-returns-else-bits-ge4044232465378705408 c = inl refl
+    let n = c.is_normal.ensures.0 c.if-not-is_normal.false in
+    subst (λ (x : ℕ). Apart b (b / 0x2000_0000 + x - 0x1_c000_0000)) (sym c.raise.ensures)
+    (apart b _ _ n.0 n.1 refl c.if-past-lt536869887.true)
