@@ -1,4 +1,3 @@
 -- The laws that the proofs of `buffer` share; those on rows of checks serve the crates above it too.
 pub mod Checks
-mod Accepted
 mod Moved

@@ -1,14 +1,34 @@
--- An answer in document 01's terms, the paper's refusal number or the values, and what it is for each case of a copy's enum.
-use Rattle.std.specs.Prelude.{ℕ}
-use Rattle.buffer.specs.declared.Copied.{Copied}
-use Rattle.buffer.specs.declared.Copied.TheVariants as copied
+-- An answer in document 01's terms: the values, or the paper's refusal number; what it is for each case of a call's result; and what a lent output
+-- then holds.
+use Rattle.std.specs.Prelude.{Bool, cond, ℕ, List, Result, Ok, Err}
+use Rattle.buffer.specs.Refusals.{number}
+use Rattle.buffer.specs.declared.refusals.Refusal.{Refusal}
 
 -- values, or a refusal of the table
 pub data Answer (A : Type 0) : Type 0 where
   accepted : A → Answer A
   refusal : ℕ → Answer A
 
--- a copy: the count of frames
-abbrev pub copy_answer : Copied → Answer ℕ
-copy_answer (copied.Frames n) = accepted n
-copy_answer (copied.Refused number) = refusal number
+-- 'a definition gives this paper's number and values for each of its cases' (document 01, 'The shape of each place')
+abbrev pub answer_of : {A : Type 0} → Result A Refusal → Answer A
+answer_of (Ok values) = accepted values
+answer_of (Err refused) = refusal (number refused)
+
+-- a lent output holds what the call stores, and is unchanged where the call is refused
+abbrev pub stored : {A : Type 0} → Answer A → List ℕ → List ℕ → List ℕ
+stored (accepted values) samples out = samples
+stored (refusal number) samples out = out
+
+-- a call whose checks stand before its values: the first refusal of the checks, else the values
+abbrev pub after_checks : {A : Type 0} → Result Unit Refusal → A → Result A Refusal
+after_checks (Ok passed) values = Ok values
+after_checks (Err refused) values = Err refused
+
+-- a check of one row of the table: it passes, or the call is refused
+abbrev pub check : Bool → Refusal → Result Unit Refusal
+check passes refused = cond passes (Ok tt) (Err refused)
+
+-- whether a call passed, or its refusal
+abbrev pub passed : {A : Type 0} → Result A Refusal → Result Unit Refusal
+passed (Ok values) = Ok tt
+passed (Err refused) = Err refused

@@ -1,11 +1,11 @@
 -- Copies out of and into a channel: W3C Web Audio API, section 'AudioBuffer', copyFromChannel() and copyToChannel().
 use Rattle.std.specs.Prelude.{ℕ, ◌-◌, min, cond, not, List, ◌++◌, take, drop, nat_lt}
 use Rattle.lists.specs.Parts.{put}
-use Rattle.buffer.specs.Refusals.{SHAPE, CHANNEL}
+use Rattle.buffer.specs.declared.refusals.Refusal.TheVariants as refused
 use Rattle.buffer.specs.Limits.{valid_shape}
 use Rattle.buffer.specs.Answers.{Answer, accepted, refusal}
-use Rattle.buffer.specs.declared.Copied.{Copied}
-use Rattle.buffer.specs.declared.Copied.TheVariants.{Frames, Refused}
+use Rattle.buffer.specs.declared.refusals.Refusal.{Refusal}
+use Rattle.std.specs.Prelude.{Result, Ok, Err}
 -- a channel's frames, which a copy moves
 pub use Rattle.buffer.specs.Channels.{channel}
 
@@ -14,11 +14,11 @@ abbrev pub count : ℕ → ℕ → ℕ → ℕ
 count nb k nf = min (nb - k) nf
 
 -- the answer of each copy: rows 1 and 3 of the table, then the count
-unfoldable pub copied : ℕ → ℕ → ℕ → ℕ → ℕ → ℕ → Copied
+unfoldable pub copied : ℕ → ℕ → ℕ → ℕ → ℕ → ℕ → Result ℕ Refusal
 copied channels frames len number offset nf =
-    cond (not (valid_shape channels frames len)) (Refused SHAPE)
-    (cond (not (nat_lt number channels)) (Refused CHANNEL)
-    (Frames (count frames offset nf)))
+    cond (not (valid_shape channels frames len)) (Err refused.Shape)
+    (cond (not (nat_lt number channels)) (Err refused.Channel)
+    (Ok (count frames offset nf)))
 
 -- the destination of copyFromChannel() by the answer: n frames from the offset on, and 'the remaining elements of destination are not modified'
 abbrev pub copied_out : Answer ℕ → List ℕ → ℕ → List ℕ → List ℕ

@@ -3,12 +3,12 @@ use Rattle.std.specs.Prelude.{◌≡◌, ℕ, [], ◌∷◌}
 use Rattle.buffer.specs.Answers.{accepted}
 use Rattle.buffer.specs.Channels.{channel}
 use Rattle.buffer.specs.Copies.{copied, copied_out}
-use Rattle.buffer.specs.declared.Copied.TheVariants.{Frames}
+use Rattle.std.specs.Prelude.{Ok}
 
 unfoldable pub KnownBuffer : Type 0
 KnownBuffer =
     -- N = 4, k = 3, F = 3: one frame; k = 9: none
-    (copied 1 4 4 0 3 3 ≡ Frames 1)
+    (copied 1 4 4 0 3 3 ≡ Ok 1)
     × ((a b c d x y z : ℕ) → copied_out (accepted 1) (channel (a ∷ b ∷ c ∷ d ∷ []) 4 0) 3 (x ∷ y ∷ z ∷ []) ≡ d ∷ y ∷ z ∷ [])
-    × (copied 1 4 4 0 9 3 ≡ Frames 0)
+    × (copied 1 4 4 0 9 3 ≡ Ok 0)
     × ((a b c d x y z : ℕ) → copied_out (accepted 0) (channel (a ∷ b ∷ c ∷ d ∷ []) 4 0) 9 (x ∷ y ∷ z ∷ []) ≡ x ∷ y ∷ z ∷ [])

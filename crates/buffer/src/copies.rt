@@ -1,14 +1,14 @@
 // Copies out of and into a channel, as the W3C Web Audio API has them, with the count returned.
-ghost use Rattle.std.specs.Prelude.{◌≡◌, ◌+◌, ◌*◌, length};
-ghost use Rattle.buffer.specs.Answers.{copy_answer};
+ghost use Rattle.std.specs.Prelude.{◌≡◌, ◌+◌, ◌-◌, ◌*◌, ◌≤◌, min, length, IfOk};
+ghost use Rattle.buffer.specs.Answers.{answer_of};
 ghost use Rattle.buffer.specs.Channels.{channel};
 ghost use Rattle.buffer.specs.Copies.{copied, copied_out, copied_in};
 
-use super::limits::is_valid_shape;
-use super::{Copied, refusals};
-use frames::{copy_frames, smaller};
+use super::Refusal;
+use super::limits::check_shape;
 
 // How many frames a copy moves, or its refusal.
+#[tactic(auto, unfolding(crate::specs::Copies::copied))]
 fn checked(
     channels: usize,
     frames: usize,
@@ -16,16 +16,15 @@ fn checked(
     number: usize,
     offset: usize,
     count: usize,
-) -> Copied
-    ensures { result ≡ copied channels frames len number offset count }
+) -> Result<usize, Refusal>
+    ensures answer { result ≡ copied channels frames len number offset count }
+    ensures within { IfOk result (λ n. (frames * number + frames ≤ len) × (len ≤ 536870912) × (min offset frames + n ≤ frames) × (n ≤ count) × (n ≡ min (frames - offset) count)) }
 {
-    if !is_valid_shape(channels, frames, len) {
-        return Copied::Refused(refusals::SHAPE);
-    }
+    check_shape(channels, frames, len)?;
     if number >= channels {
-        return Copied::Refused(refusals::CHANNEL);
+        return Err(Refusal::Channel);
     }
-    Copied::Frames(smaller(frames - smaller(offset, frames), count))
+    Ok((frames - offset.min(frames)).min(count))
 }
 
 // Copies the frames of the channel `number` from `offset` on into `destination`.
@@ -36,25 +35,23 @@ pub fn copy_from_channel_with_offset(
     destination: &mut [u32],
     number: usize,
     offset: usize,
-) -> Copied
+) -> Result<usize, Refusal>
     ensures { (result ≡ copied channels frames (length samples.now) number offset (length destination.old))
-        × (destination.new ≡ copied_out (copy_answer result) (channel samples.now frames number) offset destination.old) }
+        × (destination.new ≡ copied_out (answer_of result) (channel samples.now frames number) offset destination.old) }
 {
-    let answer = checked(
+    let n = checked(
         channels,
         frames,
         samples.len(),
         number,
         offset,
         destination.len(),
-    );
-    if let Copied::Frames(n) = answer {
-        let start = frames * number;
-        let frames_of = &samples[start..start + frames];
-        let from = smaller(offset, frames);
-        copy_frames(&mut destination[..n], &frames_of[from..from + n]);
-    }
-    answer
+    )?;
+    let start = frames * number;
+    let channel = &samples[start..start + frames];
+    let from = offset.min(frames);
+    destination[..n].copy_from_slice(&channel[from..from + n]);
+    Ok(n)
 }
 
 // Copies the frames of the channel `number` into `destination`.
@@ -64,9 +61,9 @@ pub fn copy_from_channel(
     samples: &[u32],
     destination: &mut [u32],
     number: usize,
-) -> Copied
+) -> Result<usize, Refusal>
     ensures { (result ≡ copied channels frames (length samples.now) number 0 (length destination.old))
-        × (destination.new ≡ copied_out (copy_answer result) (channel samples.now frames number) 0 destination.old) }
+        × (destination.new ≡ copied_out (answer_of result) (channel samples.now frames number) 0 destination.old) }
 {
     copy_from_channel_with_offset(channels, frames, samples, destination, number, 0)
 }
@@ -79,23 +76,21 @@ pub fn copy_to_channel_with_offset(
     source: &[u32],
     number: usize,
     offset: usize,
-) -> Copied
+) -> Result<usize, Refusal>
     ensures { (result ≡ copied channels frames (length samples.old) number offset (length source.now))
-        × (samples.new ≡ copied_in (copy_answer result) source.now (frames * number + offset) samples.old) }
+        × (samples.new ≡ copied_in (answer_of result) source.now (frames * number + offset) samples.old) }
 {
-    let answer = checked(
+    let n = checked(
         channels,
         frames,
         samples.len(),
         number,
         offset,
         source.len(),
-    );
-    if let Copied::Frames(n) = answer {
-        let at = frames * number + smaller(offset, frames);
-        copy_frames(&mut samples[at..at + n], &source[..n]);
-    }
-    answer
+    )?;
+    let at = frames * number + offset.min(frames);
+    samples[at..at + n].copy_from_slice(&source[..n]);
+    Ok(n)
 }
 
 // Copies `source` into the channel `number`.
@@ -105,9 +100,9 @@ pub fn copy_to_channel(
     samples: &mut [u32],
     source: &[u32],
     number: usize,
-) -> Copied
+) -> Result<usize, Refusal>
     ensures { (result ≡ copied channels frames (length samples.old) number 0 (length source.now))
-        × (samples.new ≡ copied_in (copy_answer result) source.now (frames * number) samples.old) }
+        × (samples.new ≡ copied_in (answer_of result) source.now (frames * number) samples.old) }
 {
     copy_to_channel_with_offset(channels, frames, samples, source, number, 0)
 }

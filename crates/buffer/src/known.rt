@@ -3,6 +3,7 @@
 ghost use Rattle.buffer.specs.Known.{KnownBuffer};
 
 // The known frames about copies.
+#[tactic(auto, unfolding(crate::specs::Known::KnownBuffer, crate::specs::Limits::valid_shape, crate::specs::Copies::copied))]
 pub fn known_buffer()
     ensures { KnownBuffer }
 {}

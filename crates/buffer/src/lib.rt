@@ -3,16 +3,22 @@
 // the refusal in document 01's table, and all lent memory unchanged.
 #![tactic(auto)]
 
+mod channels;
 mod copies;
 mod known;
 mod limits;
-pub mod refusals;
+mod refusals;
 
+pub use channels::Channels;
 pub use copies::{
     copy_from_channel, copy_from_channel_with_offset, copy_to_channel, copy_to_channel_with_offset,
 };
 pub use known::known_buffer;
-pub use limits::{MAX_CHANNELS, MAX_FRAMES, duration, is_valid_sample_rate, is_valid_shape};
+pub use limits::{
+    MAX_CHANNELS, MAX_FRAMES, check_rate, check_shape, duration, is_valid_sample_rate,
+    is_valid_shape,
+};
+pub use refusals::Refusal;
 
 // The channels of a buffer, the frames in each of them, and the sample rate.
 #[repr(C)]
@@ -21,11 +27,4 @@ pub struct Shape {
     pub channels: usize,
     pub frames: usize,
     pub rate: f32,
-}
-
-// The answer of a copy: the count of frames that were moved.
-#[derive(Drop)]
-pub enum Copied {
-    Frames(usize),
-    Refused(u32),
 }

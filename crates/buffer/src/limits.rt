@@ -1,8 +1,10 @@
 // The limits of document 01 and a buffer's duration.
-ghost use Rattle.std.specs.Prelude.{◌≡◌};
-ghost use Rattle.buffer.specs.Limits.{valid_shape, valid_rate, duration};
+ghost use Rattle.std.specs.Prelude.{◌≡◌, IfOk};
+ghost use Rattle.buffer.specs.Answers.{check};
+ghost use Rattle.buffer.specs.Limits.{valid_shape, valid_rate, duration, Valid};
+ghost use Rattle.buffer.specs.declared.refusals.Refusal.TheVariants as refused;
 
-use super::Shape;
+use super::{Refusal, Shape};
 use rounding::whole;
 
 pub const MAX_CHANNELS: usize = 32;
@@ -14,31 +16,48 @@ const MIN_SAMPLE_RATE: f32 = 3_000.0;
 const MAX_SAMPLE_RATE: f32 = 768_000.0;
 
 // Whether samples of the length `len` are that many channels of that many frames, within the limits.
+#[tactic(auto, unfolding(crate::specs::Limits::valid_shape))]
 pub fn is_valid_shape(channels: usize, frames: usize, len: usize) -> bool
     ensures { result ≡ valid_shape channels frames len }
 {
-    if channels < 1 {
-        return false;
-    }
-    if channels > MAX_CHANNELS {
-        return false;
-    }
-    if frames > MAX_FRAMES {
-        return false;
-    }
-    len == channels * frames
+    1 <= channels && channels <= MAX_CHANNELS && frames <= MAX_FRAMES && len == channels * frames
 }
 
 // Whether a rate is within the limits; a NaN isn't.
+#[tactic(auto, unfolding(crate::specs::Limits::valid_rate))]
 pub fn is_valid_sample_rate(rate: f32) -> bool
     ensures { result ≡ valid_rate rate }
 {
     MIN_SAMPLE_RATE <= rate && rate <= MAX_SAMPLE_RATE
 }
 
+// Refuses what isn't a valid shape.
+pub fn check_shape(channels: usize, frames: usize, len: usize) -> Result<(), Refusal>
+    ensures answer { result ≡ check (valid_shape channels frames len) refused.Shape }
+    ensures valid { IfOk result (λ _. Valid channels frames len) }
+{
+    if is_valid_shape(channels, frames, len) {
+        Ok(())
+    } else {
+        Err(Refusal::Shape)
+    }
+}
+
+// Refuses a rate outside the limits, and a NaN.
+pub fn check_rate(rate: f32) -> Result<(), Refusal>
+    ensures { result ≡ check (valid_rate rate) refused.Rate }
+{
+    if is_valid_sample_rate(rate) {
+        Ok(())
+    } else {
+        Err(Refusal::Rate)
+    }
+}
+
 // A buffer's length in seconds.
+#[tactic(auto, unfolding(crate::specs::Limits::duration))]
 pub fn duration(shape: Shape) -> f64
     ensures { result ≡ duration shape.frames shape.rate }
 {
-    whole(shape.frames) / std::num::f32_to_f64_with_nan(shape.rate)
+    whole(shape.frames) / f64::from(shape.rate)
 }

@@ -1,32 +1,42 @@
-// The refusal numbers of document 01's table, by the names of specs/Refusals.antt.
-pub const SHAPE: u32 = 1;
+// The refusals of document 01's table, each with its number.
+use std::fmt;
 
-pub const RATE: u32 = 2;
+// Why a call is turned down. The number of each is its row's in the table.
+#[derive(Clone, Copy, Debug, PartialEq, Eq)]
+pub enum Refusal {
+    Shape = 1,
+    Rate = 2,
+    Channel = 3,
+    Unlike = 4,
+    Point = 5,
+    Single = 6,
+    Long = 7,
+    Length = 8,
+    Value = 9,
+    Second = 10,
+    Early = 11,
+    Empty = 12,
+    Time = 13,
+    Speed = 14,
+    Layout = 15,
+    Cents = 16,
+}
 
-pub const CHANNEL: u32 = 3;
+impl Refusal {
+    ghost use Rattle.std.specs.Prelude.{◌≡◌};
+    ghost use Rattle.buffer.specs.Refusals.{number};
 
-pub const UNLIKE: u32 = 4;
+    // The number in the table, by which C and the program `trial` know the refusal.
+    pub fn number(self) -> u32
+        ensures { result ≡ number self }
+    {
+        self as u32
+    }
+}
 
-pub const POINT: u32 = 5;
-
-pub const SINGLE: u32 = 6;
-
-pub const LONG: u32 = 7;
-
-pub const LENGTH: u32 = 8;
-
-pub const VALUE: u32 = 9;
-
-pub const SECOND: u32 = 10;
-
-pub const EARLY: u32 = 11;
-
-pub const EMPTY: u32 = 12;
-
-pub const TIME: u32 = 13;
-
-pub const SPEED: u32 = 14;
-
-pub const LAYOUT: u32 = 15;
-
-pub const CENTS: u32 = 16;
+impl fmt::Display for Refusal {
+    fn fmt<W: fmt::Write>(&self, f: &mut fmt::Formatter<W>) -> fmt::Result {
+        let number = self.number();
+        write!(f, "{number}")
+    }
+}

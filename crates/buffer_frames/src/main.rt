@@ -3,55 +3,80 @@
 // that the lent slice holds.
 #![tactic(auto)]
 
-use buffer::{Copied, Shape};
-use reshape::{Made, Parted};
-use std::io;
+use buffer::{Refusal, Shape};
+use rounding::BinaryFloat;
+use std::{fmt, io};
 
-fn print_words(rt: &impl Print, words: &[u32]) -> io::Result<()> {
-    for word in words {
-        print!(rt; " {word:08x}")?;
-    }
-    println!(rt)
-}
+// An answer: its values, or X and the refusal's number.
+#[derive(Drop)]
+struct Answer<T>(Result<T, Refusal>);
 
-fn print_refused(rt: &impl Print, number: u32) -> io::Result<()> {
-    print!(rt; "X {number}")
-}
-
-fn print_shape(rt: &impl Print, shape: Shape) -> io::Result<()> {
-    let channels = shape.channels;
-    let frames = shape.frames;
-    let rate = rounding::to_pattern(shape.rate);
-    print!(rt; "{channels} {frames} {rate:08x}")
-}
-
-fn print_copied(rt: &impl Print, answer: Copied, words: &[u32]) -> io::Result<()> {
-    match answer {
-        Copied::Frames(n) => print!(rt; "{n}")?,
-        Copied::Refused(number) => print_refused(rt, number)?,
-    }
-    print_words(rt, words)
-}
-
-fn print_made(rt: &impl Print, answer: Made, words: &[u32]) -> io::Result<()> {
-    match answer {
-        Made::Buffer(shape) => print_shape(rt, shape)?,
-        Made::Refused(number) => print_refused(rt, number)?,
-    }
-    print_words(rt, words)
-}
-
-fn print_parted(rt: &impl Print, answer: Parted, first: &[u32], rest: &[u32]) -> io::Result<()> {
-    match answer {
-        Parted::Buffers(a, b) => {
-            print_shape(rt, a)?;
-            print!(rt; " ")?;
-            print_shape(rt, b)?;
+impl<T: fmt::Display> fmt::Display for Answer<T> {
+    fn fmt<W: fmt::Write>(&self, f: &mut fmt::Formatter<W>) -> fmt::Result {
+        match &self.0 {
+            Ok(values) => write!(f, "{values}"),
+            Err(refusal) => write!(f, "X {refusal}"),
         }
-        Parted::Refused(number) => print_refused(rt, number)?,
     }
-    print_words(rt, first)?;
-    print_words(rt, rest)
+}
+
+// A shape: its channels, its frames and the bits of its rate.
+#[derive(Clone, Copy)]
+struct Line(Shape);
+
+impl fmt::Display for Line {
+    fn fmt<W: fmt::Write>(&self, f: &mut fmt::Formatter<W>) -> fmt::Result {
+        let channels = self.0.channels;
+        let frames = self.0.frames;
+        let rate = self.0.rate.to_pattern();
+        write!(f, "{channels} {frames} {rate:08x}")
+    }
+}
+
+// The shapes of the two parts of a split.
+#[derive(Clone, Copy)]
+struct Parts(Line, Line);
+
+impl fmt::Display for Parts {
+    fn fmt<W: fmt::Write>(&self, f: &mut fmt::Formatter<W>) -> fmt::Result {
+        write!(f, "{} {}", self.0, self.1)
+    }
+}
+
+// The words of a slice, each after a space.
+#[derive(Clone, Copy)]
+struct Words<'a>(&'a [u32]);
+
+impl<'a> fmt::Display for Words<'a> {
+    fn fmt<W: fmt::Write>(&self, f: &mut fmt::Formatter<W>) -> fmt::Result {
+        for word in self.0 {
+            write!(f, " {word:08x}")?;
+        }
+        Ok(())
+    }
+}
+
+fn print_copied(rt: &impl Print, answer: Result<usize, Refusal>, words: &[u32]) -> io::Result<()> {
+    println!(rt; "{}{}", Answer(answer), Words(words))
+}
+
+fn print_made(rt: &impl Print, answer: Result<Shape, Refusal>, words: &[u32]) -> io::Result<()> {
+    println!(rt;
+        "{}{}",
+        Answer(answer.map(|shape| Line(shape))),
+        Words(words)
+    )
+}
+
+fn print_parted(
+    rt: &impl Print,
+    answer: Result<(Shape, Shape), Refusal>,
+    first: &[u32],
+    rest: &[u32],
+) -> io::Result<()> {
+    let parts = answer.map(|(a, b)| Parts(Line(a), Line(b)));
+    println!(rt; "{}{}", Answer(parts), Words(first))?;
+    println!(rt; "{}", Words(rest))
 }
 
 // 16,777,216 frames are accepted, one more is not; 24,000 frames at 48,000 last half a second.
@@ -64,7 +89,7 @@ fn run_limits(rt: &impl Print) -> io::Result<()> {
         frames: 24000,
         rate: 48000.0,
     });
-    let bits = rounding::to_pattern_f64(half);
+    let bits = half.to_pattern();
     println!(rt; "{bits:016x}")
 }
 

@@ -4,11 +4,11 @@ use Rattle.std.specs.Float.{binary32}
 use Rattle.std.specs.Float.Ieee.{of_bits}
 use Rattle.lists.specs.Table.{table}
 use Rattle.buffer.specs.Limits.{valid_shape, valid_rate}
-use Rattle.buffer.specs.Refusals.{SHAPE, RATE, LENGTH, LAYOUT}
+use Rattle.buffer.specs.declared.refusals.Refusal.TheVariants as refused
 use Rattle.clip.specs.Layout.{header_length, offset, file_length, max_length}
 use Rattle.clip.specs.declared.ClipHeader.{ClipHeader}
-use Rattle.clip.specs.declared.ClipRead.{ClipRead}
-use Rattle.clip.specs.declared.ClipRead.TheVariants.{Clip, Refused}
+use Rattle.buffer.specs.declared.refusals.Refusal.{Refusal}
+use Rattle.std.specs.Prelude.{Result, Ok, Err}
 
 -- the number of n bytes, little-endian, at the start of a list; a byte past the end counts as 0
 unfoldable pub number : ℕ → List ℕ → ℕ
@@ -64,24 +64,24 @@ header_of file = record {
   start = header_length (channels_field file);
 }
 
-unfoldable pub clip_read : List ℕ → ClipRead
+unfoldable pub clip_read : List ℕ → Result ClipHeader Refusal
 clip_read file =
-    cond (not (is_layout file)) (Refused LAYOUT)
-    (cond (not (valid_shape (channels_field file) (frames_field file) (channels_field file * frames_field file))) (Refused SHAPE)
-    (cond (not (valid_rate (of_bits binary32 (rate_field file)))) (Refused RATE)
-    (Clip (header_of file))))
+    cond (not (is_layout file)) (Err refused.Layout)
+    (cond (not (valid_shape (channels_field file) (frames_field file) (channels_field file * frames_field file))) (Err refused.Shape)
+    (cond (not (valid_rate (of_bits binary32 (rate_field file)))) (Err refused.Rate)
+    (Ok (header_of file))))
 
 -- ---- reading the frames into a lent slice of the length n
 
 -- a slice that is not just channels × frames long is refused last
-unfoldable pub room_checked : ClipRead → ℕ → ClipRead
-room_checked (Clip h) n = cond (eqb n (h.shape.channels * h.shape.frames)) (Clip h) (Refused LENGTH)
-room_checked (Refused refusal) n = Refused refusal
+unfoldable pub room_checked : Result ClipHeader Refusal → ℕ → Result ClipHeader Refusal
+room_checked (Ok h) n = cond (eqb n (h.shape.channels * h.shape.frames)) (Ok h) (Err refused.Length)
+room_checked (Err refusal) n = Err refusal
 
-abbrev pub frames_read : List ℕ → ℕ → ClipRead
+abbrev pub frames_read : List ℕ → ℕ → Result ClipHeader Refusal
 frames_read file n = room_checked (clip_read file) n
 
 -- the slice by the answer
-unfoldable pub frames_out : ClipRead → List ℕ → List ℕ → List ℕ
-frames_out (Clip h) file out = frames_from file h.start (length out)
-frames_out (Refused refusal) file out = out
+unfoldable pub frames_out : Result ClipHeader Refusal → List ℕ → List ℕ → List ℕ
+frames_out (Ok h) file out = frames_from file h.start (length out)
+frames_out (Err refusal) file out = out

@@ -3,10 +3,12 @@
 #![tactic(auto)]
 
 ghost use Rattle.std.specs.Prelude.{◌≡◌, ◌+◌, ◌*◌, ◌<◌, ◌≤◌, length, get_or};
+ghost use Rattle.lists.specs.Table.{table};
 ghost use Rattle.clip.specs.Reading.{number_at, frames_from, offsets_match, is_layout, clip_read, frames_read, frames_out};
 ghost use Rattle.clip.specs.Statement.{ClipFile};
 
-use buffer::{Shape, refusals};
+use buffer::{Refusal, Shape};
+use rounding::BinaryFloat;
 
 // The longest clip file.
 pub const MAX_LENGTH: usize = 65_536;
@@ -19,39 +21,37 @@ pub struct ClipHeader {
     pub start: usize,
 }
 
-#[derive(Drop)]
-pub enum ClipRead {
-    Clip(ClipHeader),
-    Refused(u32),
-}
-
 // The byte at a place, 0 past the end.
-fn byte_at(file: &[u8], at: usize) -> usize
-    ensures { (result ≡ get_or file.now at 0) × (result < 256) }
+fn byte_at(file: &[u8], at: usize) -> u8
+    ensures { result ≡ get_or file.now at 0 }
 {
-    if at < file.len() {
-        file[at] as usize
-    } else {
-        0
+    file.get(at).copied().unwrap_or(0)
+}
+
+// The N bytes from a place on.
+fn bytes_at<const N: usize>(file: &[u8], at: usize) -> [u8; N]
+    requires { at + N < 18446744073709551616 }
+    ensures { result ≡ table N (λ i. get_or file.now (at + i) 0) }
+{
+    let mut bytes = [0; N];
+    for (i, byte) in bytes.iter_mut().enumerate() {
+        *byte = byte_at(file, at + i);
     }
+    bytes
 }
 
-fn u16_at(file: &[u8], at: usize) -> usize
+fn u16_at(file: &[u8], at: usize) -> u16
     requires { at < 4294967296 }
-    ensures { (result ≡ number_at 2 file.now at) × (result < 65536) }
+    ensures { result ≡ number_at 2 file.now at }
 {
-    let low = byte_at(file, at);
-    let high = byte_at(file, at + 1);
-    low + 256 * high
+    u16::from_le_bytes(bytes_at(file, at))
 }
 
-fn u32_at(file: &[u8], at: usize) -> usize
-    requires { at < 4294967294 }
-    ensures { (result ≡ number_at 4 file.now at) × (result < 4294967296) }
+fn u32_at(file: &[u8], at: usize) -> u32
+    requires { at < 4294967296 }
+    ensures { result ≡ number_at 4 file.now at }
 {
-    let low = u16_at(file, at);
-    let high = u16_at(file, at + 2);
-    low + 65_536 * high
+    u32::from_le_bytes(bytes_at(file, at))
 }
 
 // Whether offset c is where channel c starts, for each channel.
@@ -59,64 +59,50 @@ fn offsets_match(file: &[u8], channels: usize, frames: usize) -> bool
     requires { (channels < 65536) × (frames < 4294967296) }
     ensures { result ≡ offsets_match file.now channels frames }
 {
-    let mut c = 0;
-    while c < channels {
-        if u32_at(file, 12 + 4 * c) != 12 + 4 * channels + 4 * frames * c {
+    for c in 0..channels {
+        if u32_at(file, 12 + 4 * c) as usize != 12 + 4 * channels + 4 * frames * c {
             return false;
         }
-        c += 1;
     }
     true
 }
 
 // Whether header, offsets and length are as the layout has them.
+#[tactic(auto, using(crate::proofs::Numbers::rows_bound), unfolding(crate::specs::Reading::is_layout))]
 fn is_layout(file: &[u8]) -> bool
     ensures { result ≡ is_layout file.now }
 {
     let len = file.len();
-    if len < 12 {
-        return false;
-    }
-    if len > MAX_LENGTH {
-        return false;
-    }
-    let channels = u16_at(file, 2);
-    if u16_at(file, 0) != 12 + 4 * channels {
-        return false;
-    }
-    let frames = u32_at(file, 4);
-    if frames < 1 {
-        return false;
-    }
-    if len != 12 + 4 * channels + 4 * frames * channels {
-        return false;
-    }
-    offsets_match(file, channels, frames)
+    let channels = usize::from(u16_at(file, 2));
+    let frames = u32_at(file, 4) as usize;
+    12 <= len
+        && len <= MAX_LENGTH
+        && usize::from(u16_at(file, 0)) == 12 + 4 * channels
+        && 1 <= frames
+        && len == 12 + 4 * channels + 4 * frames * channels
+        && offsets_match(file, channels, frames)
 }
 
 // Reads a clip's header, or says why the file is refused.
-pub fn read_clip(file: &[u8]) -> ClipRead
+#[tactic(auto, using(crate::proofs::Numbers::rows_bound), unfolding(crate::specs::Reading::clip_read))]
+pub fn read_clip(file: &[u8]) -> Result<ClipHeader, Refusal>
     ensures { result ≡ clip_read file.now }
 {
     if !is_layout(file) {
-        return ClipRead::Refused(refusals::LAYOUT);
+        return Err(Refusal::Layout);
     }
-    let channels = u16_at(file, 2);
-    let frames = u32_at(file, 4);
-    if !buffer::is_valid_shape(channels, frames, channels * frames) {
-        return ClipRead::Refused(refusals::SHAPE);
-    }
-    let rate_bits = u32_at(file, 8) as u32;
-    let rate = rounding::from_pattern(rate_bits);
-    if !buffer::is_valid_sample_rate(rate) {
-        return ClipRead::Refused(refusals::RATE);
-    }
+    let channels = usize::from(u16_at(file, 2));
+    let frames = u32_at(file, 4) as usize;
+    buffer::check_shape(channels, frames, channels * frames)?;
+    let rate_bits = u32_at(file, 8);
+    let rate = f32::from_pattern(rate_bits);
+    buffer::check_rate(rate)?;
     let shape = Shape {
         channels,
         frames,
         rate,
     };
-    ClipRead::Clip(ClipHeader {
+    Ok(ClipHeader {
         shape,
         rate_bits,
         start: 12 + 4 * channels,
@@ -128,28 +114,23 @@ fn read_words(file: &[u8], start: usize, out: &mut [u32])
     requires { start + 4 * length out.old < 4294967294 }
     ensures { out.new ≡ frames_from file.now start (length out.old) }
 {
-    let mut i = 0;
-    while i < out.len() {
-        out[i] = u32_at(file, start + 4 * i) as u32;
-        i += 1;
+    for (i, word) in out.iter_mut().enumerate() {
+        *word = u32_at(file, start + 4 * i);
     }
 }
 
 // Stores a clip's frames, channel after channel, in a slice of just their number.
-pub fn read_frames(file: &[u8], out: &mut [u32]) -> ClipRead
+#[tactic(auto, unfolding(crate::specs::Reading::room_checked, crate::specs::Reading::frames_out))]
+pub fn read_frames(file: &[u8], out: &mut [u32]) -> Result<ClipHeader, Refusal>
     ensures { (result ≡ frames_read file.now (length out.old))
         × (out.new ≡ frames_out result file.now out.old) }
 {
-    match read_clip(file) {
-        ClipRead::Clip(header) => {
-            if out.len() != header.shape.channels * header.shape.frames {
-                return ClipRead::Refused(refusals::LENGTH);
-            }
-            read_words(file, header.start, out);
-            ClipRead::Clip(header)
-        }
-        ClipRead::Refused(number) => ClipRead::Refused(number),
+    let header = read_clip(file)?;
+    if out.len() != header.shape.channels * header.shape.frames {
+        return Err(Refusal::Length);
     }
+    read_words(file, header.start, out);
+    Ok(header)
 }
 
 // The reader accepts exactly the bytes of the layout, and reads what they were made of.

@@ -1,10 +1,11 @@
--- Cents counted from the lowest that is accepted, as the code counts them: −12,000 is 0 and 12,000 is 24,000; those outside are 24,001. Definitions only.
-use Rattle.std.specs.Prelude.{cond, ℕ, ◌+◌, ◌-◌, ℤ, pos, negsuc}
+-- Cents counted from the lowest that is accepted, as the code counts them: −12,000 is 0 and 12,000 is 24,000. Definitions only.
+use Rattle.std.specs.Prelude.{cond, ℕ, ◌+◌, ◌-◌, ℤ, pos, negsuc, Option, Some, None}
 use Rattle.detune.specs.Detune.{bad_cents}
 
 abbrev pub from_lowest : ℤ → ℕ
 from_lowest (pos n) = 12000 + n
 from_lowest (negsuc n) = 11999 - n
 
-unfoldable pub counted : ℤ → ℕ
-counted cents = cond (bad_cents cents) 24001 (from_lowest cents)
+-- none for cents that are refused
+unfoldable pub counted : ℤ → Option ℕ
+counted cents = cond (bad_cents cents) None (Some (from_lowest cents))

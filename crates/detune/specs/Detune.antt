@@ -2,10 +2,10 @@
 use Rattle.std.specs.Prelude.{Bool, false, cond, ℕ, ◌+◌, ◌-◌, ◌*◌, ◌/◌, ◌%◌, ◌^◌, ◌≤◌, ◌<◌, leb, ltb, ℤ, pos, negsuc, get_or, Float}
 use Rattle.std.specs.Float.{binary64}
 use Rattle.std.specs.Float.Ieee.{round, up, down}
-use Rattle.buffer.specs.Refusals.{CENTS}
+use Rattle.buffer.specs.declared.refusals.Refusal.TheVariants as refused
 use Rattle.detune.specs.Table.{entries}
-use Rattle.detune.specs.declared.Detune.{Detune}
-use Rattle.detune.specs.declared.Detune.TheVariants.{By, Refused}
+use Rattle.buffer.specs.declared.refusals.Refusal.{Refusal}
+use Rattle.std.specs.Prelude.{Result, Ok, Err}
 
 -- 'The rule for entry f is f^1200 ≤ 2^(c + 36000) < (f + 1)^1200'
 abbrev pub Rule : ℕ → ℕ → Type 0
@@ -33,5 +33,5 @@ bad_cents (negsuc n) = leb 12000 n
 unfoldable pub factor_of : ℤ → Float
 factor_of cents = round binary64 false (entry (above cents) * up (octaves cents)) (2 ^ 30 * down (octaves cents))
 
-unfoldable pub factored : ℤ → Detune
-factored cents = cond (bad_cents cents) (Refused CENTS) (By (factor_of cents))
+unfoldable pub factored : ℤ → Result Float Refusal
+factored cents = cond (bad_cents cents) (Err refused.Cents) (Ok (factor_of cents))

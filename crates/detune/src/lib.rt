@@ -8,58 +8,44 @@ ghost use Rattle.detune.specs.Statement.{TheTable, Exact};
 
 mod table;
 
-use buffer::refusals;
+use buffer::Refusal;
 
-// The factor of whole cents.
-#[derive(Drop)]
-pub enum Detune {
-    By(f64),
-    Refused(u32),
-}
-
-// Entry c of the table. At whole octaves, where a block may be aligned and quick, the table isn't
-// laid out.
+// Entry c of the table.
 fn entry(c: usize) -> u32
     requires { c < 1200 }
     ensures { result ≡ entry c }
 {
-    if c == 0 {
-        return 1_073_741_824;
-    }
     table::ENTRIES[c]
 }
 
-// Cents counted from −12,000; 24,001 outside −12,000 to 12,000.
-fn counted(cents: i32) -> usize
+// Cents counted from −12,000, or none outside −12,000 to 12,000.
+fn counted(cents: i32) -> Option<usize>
     ensures { result ≡ counted cents }
 {
-    if cents < -12_000 {
-        return 24_001;
+    if cents < -12_000 || cents > 12_000 {
+        return None;
     }
-    if cents > 12_000 {
-        return 24_001;
-    }
-    (cents + 12_000) as usize
+    Some((cents + 12_000) as usize)
 }
 
 // Cents outside −12,000 to 12,000.
+#[tactic(auto, unfolding(crate::specs::Counted::counted))]
 pub fn is_bad_cents(cents: i32) -> bool
     ensures { result ≡ bad_cents cents }
 {
-    counted(cents) > 24_000
+    counted(cents).is_none()
 }
 
-// The factor, or 16 for cents outside −12,000 to 12,000. Counted from 10 octaves below, the octaves
-// are a quotient, and entry × 2^octaves is a whole number below 2^53; so both steps are exact.
-pub fn factor(cents: i32) -> Detune
+// The factor, or a refusal of cents outside −12,000 to 12,000. Counted from 10 octaves below, the
+// octaves are a quotient, and entry × 2^octaves is a whole number below 2^53; so both steps are
+// exact.
+#[tactic(auto, unfolding(crate::specs::Counted::counted, crate::specs::Detune::factored))]
+pub fn factor(cents: i32) -> Result<f64, Refusal>
     ensures { result ≡ factored cents }
 {
-    let k = counted(cents);
-    if k > 24_000 {
-        return Detune::Refused(refusals::CENTS);
-    }
-    let scaled = (entry(k % 1_200) as u64) << (k / 1_200);
-    Detune::By(scaled as f64 / 1_099_511_627_776.0)
+    let k = counted(cents).ok_or(Refusal::Cents)?;
+    let scaled = u64::from(entry(k % 1_200)) << (k / 1_200);
+    Ok(scaled as f64 / 1_099_511_627_776.0)
 }
 
 // The table obeys the rule, and no other does.

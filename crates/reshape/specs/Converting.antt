@@ -6,12 +6,12 @@ use Rattle.rounding.specs.Rounding.{whole, floor, ceil, truncate, convert}
 use Rattle.rounding.specs.Near.{float_eq, rate_tolerance}
 use Rattle.lists.specs.Rows.{rows}
 use Rattle.lists.specs.Table.{table}
-use Rattle.buffer.specs.Refusals.{SHAPE, RATE, SINGLE, LONG}
+use Rattle.buffer.specs.declared.refusals.Refusal.TheVariants as refused
 use Rattle.buffer.specs.Limits.{valid_shape, valid_rate, max_frames}
 use Rattle.buffer.specs.Channels.{channel}
 use Rattle.buffer.specs.declared.Shape.{Shape}
-use Rattle.reshape.specs.declared.Made.{Made}
-use Rattle.reshape.specs.declared.Made.TheVariants.{Buffer, Refused}
+use Rattle.buffer.specs.declared.refusals.Refusal.{Refusal}
+use Rattle.std.specs.Prelude.{Result, Ok, Err}
 
 -- 'conversion within 0.1 of the rate, or of an empty buffer, only relabels'
 unfoldable pub relabels : Shape → Float → Bool
@@ -22,15 +22,15 @@ unfoldable pub converted_length : Shape → Float → ℕ
 converted_length shape rate = truncate (ceil binary64 (mul binary64 (whole shape.frames) (div binary64 rate shape.rate)))
 
 -- rows 1 and 2 for a buffer of `len` samples and a new rate; then a relabelled shape, or rows 7 and 6 and the result's shape
-unfoldable pub converted_shape : Shape → ℕ → Float → Made
+unfoldable pub converted_shape : Shape → ℕ → Float → Result Shape Refusal
 converted_shape shape len rate =
-    cond (not (valid_shape shape.channels shape.frames len)) (Refused SHAPE)
-    (cond (not (valid_rate shape.rate)) (Refused RATE)
-    (cond (not (valid_rate rate)) (Refused RATE)
-    (cond (relabels shape rate) (Buffer (record { channels = shape.channels; frames = shape.frames; rate = rate }))
-    (cond (nat_lt max_frames (converted_length shape rate)) (Refused LONG)
-    (cond (converted_length shape rate == 1) (Refused SINGLE)
-    (Buffer (record { channels = shape.channels; frames = converted_length shape rate; rate = rate })))))))
+    cond (not (valid_shape shape.channels shape.frames len)) (Err refused.Shape)
+    (cond (not (valid_rate shape.rate)) (Err refused.Rate)
+    (cond (not (valid_rate rate)) (Err refused.Rate)
+    (cond (relabels shape rate) (Ok (record { channels = shape.channels; frames = shape.frames; rate = rate }))
+    (cond (nat_lt max_frames (converted_length shape rate)) (Err refused.Long)
+    (cond (converted_length shape rate == 1) (Err refused.Single)
+    (Ok (record { channels = shape.channels; frames = converted_length shape rate; rate = rate })))))))
 
 -- 'frame i read at i/(M − 1) × (N − 1) in f64'
 unfoldable pub playhead : ℕ → ℕ → ℕ → Float

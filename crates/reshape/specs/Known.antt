@@ -4,7 +4,7 @@ use Rattle.std.specs.Float.{binary32}
 use Rattle.std.specs.Float.Ieee.{of_int}
 use Rattle.buffer.specs.declared.Shape.{Shape}
 use Rattle.reshape.specs.Converting.{converted_shape, converted_samples}
-use Rattle.reshape.specs.declared.Made.TheVariants.{Buffer}
+use Rattle.std.specs.Prelude.{Ok}
 
 -- a whole number as f32, and its bits
 abbrev single : ℕ → Float
@@ -20,5 +20,5 @@ mono frames rate = record { channels = 1; frames = frames; rate = single rate }
 unfoldable pub KnownReshape : Type 0
 KnownReshape =
     -- frames 0, 3 at 24,000 to 48,000: 0, 1, 2, 3
-    (converted_shape (mono 2 24000) 2 (single 48000) ≡ Buffer (mono 4 48000))
+    (converted_shape (mono 2 24000) 2 (single 48000) ≡ Ok (mono 4 48000))
     × (converted_samples (mono 2 24000) (bits 0 ∷ bits 3 ∷ []) (single 48000) ≡ bits 0 ∷ bits 1 ∷ bits 2 ∷ bits 3 ∷ [])

@@ -1,5 +1,4 @@
 -- What the contracts of `reshape` cite: one definition of each call, its answers, and the known frames about conversion.
-pub mod Answers
 pub mod Fitting
 pub mod Joining
 pub mod Parting

@@ -1,22 +1,17 @@
 // The last check of a call that makes a buffer.
-ghost use Rattle.std.specs.Prelude.{◌≡◌};
-ghost use Rattle.reshape.specs.Fitting.{fitted, Bounded};
+ghost use Rattle.std.specs.Prelude.{◌≡◌, ◌*◌, ◌==◌, IfOk};
+ghost use Rattle.buffer.specs.Answers.{check};
+ghost use Rattle.buffer.specs.declared.refusals.Refusal.TheVariants as refused;
 
-use super::Made;
-use buffer::refusals;
+use buffer::{Refusal, Shape};
 
-// The answer, or a refusal where an output of `len` frames isn't exactly the result's length.
-pub(crate) fn fitted(answer: Made, len: usize) -> Made
-    requires { Bounded answer }
-    ensures { result ≡ fitted answer len }
+// Refuses an output of `len` frames that isn't exactly the result's length.
+pub(crate) fn check_length(shape: Shape, len: usize) -> Result<(), Refusal>
+    ensures answer { result ≡ check (len == shape.channels * shape.frames) refused.Length }
+    ensures fits { IfOk result (λ _. len ≡ shape.channels * shape.frames) }
 {
-    match answer {
-        Made::Refused(number) => Made::Refused(number),
-        Made::Buffer(shape) => {
-            if len != shape.channels * shape.frames {
-                return Made::Refused(refusals::LENGTH);
-            }
-            Made::Buffer(shape)
-        }
+    match shape.channels.checked_mul(shape.frames) {
+        Some(needed) if needed == len => Ok(()),
+        _ => Err(Refusal::Length),
     }
 }

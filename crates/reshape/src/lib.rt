@@ -8,23 +8,9 @@ mod fitting;
 mod joining;
 mod known;
 mod parting;
+mod parts;
 
-use buffer::Shape;
 pub use converting::{convert, converted_shape};
 pub use joining::{extend, extended_shape};
 pub use known::known_reshape;
 pub use parting::{split, split_shapes};
-
-// The answer of a call that makes a buffer: the result's shape.
-#[derive(Drop)]
-pub enum Made {
-    Buffer(Shape),
-    Refused(u32),
-}
-
-// The answer of a split: the shapes of the first part and of the rest.
-#[derive(Drop)]
-pub enum Parted {
-    Buffers(Shape, Shape),
-    Refused(u32),
-}

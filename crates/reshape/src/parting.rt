@@ -1,26 +1,23 @@
 // Split: the first frames of a buffer, and the rest.
 ghost use Rattle.std.specs.Prelude.{◌≡◌, ◌+◌, ◌*◌, ◌≤◌, length, take, drop};
 ghost use Rattle.lists.specs.Rows.{rows};
-ghost use Rattle.reshape.specs.Answers.{parted_answer, stored};
+ghost use Rattle.buffer.specs.Answers.{answer_of, stored};
 ghost use Rattle.buffer.specs.Channels.{channel};
-ghost use Rattle.reshape.specs.Parting.{split_shapes, both_fitted, first_part, rest_part, BothBounded};
+ghost use Rattle.reshape.specs.Parting.{split_shapes, both_fitted, first_part, rest_part};
 
-use super::Parted;
-use buffer::{Shape, is_valid_sample_rate, is_valid_shape, refusals};
-use frames::copy_frames;
+use super::fitting::check_length;
+use super::parts::write_parts;
+use buffer::{Channels, Refusal, Shape, check_rate, check_shape};
 
 // The shapes of the first `point` frames of a buffer of `len` samples, and of the rest.
-pub fn split_shapes(shape: Shape, len: usize, point: usize) -> Parted
+#[tactic(auto, unfolding(crate::specs::Parting::split_shapes))]
+pub fn split_shapes(shape: Shape, len: usize, point: usize) -> Result<(Shape, Shape), Refusal>
     ensures { result ≡ split_shapes shape len point }
 {
-    if !is_valid_shape(shape.channels, shape.frames, len) {
-        return Parted::Refused(refusals::SHAPE);
-    }
-    if !is_valid_sample_rate(shape.rate) {
-        return Parted::Refused(refusals::RATE);
-    }
+    check_shape(shape.channels, shape.frames, len)?;
+    check_rate(shape.rate)?;
     if point > shape.frames {
-        return Parted::Refused(refusals::POINT);
+        return Err(Refusal::Point);
     }
     let first = Shape {
         frames: point,
@@ -30,68 +27,38 @@ pub fn split_shapes(shape: Shape, len: usize, point: usize) -> Parted
         frames: shape.frames - point,
         ..shape
     };
-    Parted::Buffers(first, rest)
+    Ok((first, rest))
 }
 
-// The answer, or a refusal where outputs of `m` and `n` frames aren't exactly the parts' lengths.
-fn both_fitted(answer: Parted, m: usize, n: usize) -> Parted
-    requires { BothBounded answer }
-    ensures { result ≡ both_fitted answer m n }
+// Stores `size` frames from `from` on of each channel, each in its own part of the output.
+fn cut_channels(out: &mut [u32], channels: Channels, from: usize, size: usize)
+    requires within { from + size ≤ channels.frames }
+    requires fits { length out.old ≡ size * channels.count }
+    ensures { out.new ≡ rows channels.entry.count (λ c. take size (drop from (channel channels.entry.samples.now channels.entry.frames c))) }
 {
-    match answer {
-        Parted::Refused(number) => Parted::Refused(number),
-        Parted::Buffers(first, rest) => {
-            if m != first.channels * first.frames {
-                return Parted::Refused(refusals::LENGTH);
-            }
-            if n != rest.channels * rest.frames {
-                return Parted::Refused(refusals::LENGTH);
-            }
-            Parted::Buffers(first, rest)
-        }
-    }
-}
-
-// Stores `size` frames from `from` on of each of `count` channels, each in its own part of the output.
-fn cut_channels(
-    out: &mut [u32],
-    samples: &[u32],
-    frames: usize,
-    from: usize,
-    size: usize,
-    count: usize,
-)
-    requires { (from + size ≤ frames) × (length samples.now ≡ frames * count) × (length out.old ≡ size * count) }
-    ensures { out.new ≡ rows count (λ c. take size (drop from (channel samples.now frames c))) }
-{
-    let mut c = 0;
-    while c < count {
-        let a = size * c;
-        let i = frames * c;
-        let channel = &samples[i..i + frames];
-        copy_frames(&mut out[a..a + size], &channel[from..from + size]);
-        c += 1;
-    }
+    write_parts(out, size, channels.count, |part, c| {
+        part.copy_from_slice(&channels.channel(c).unwrap()[from..from + size])
+    });
 }
 
 // Splits the buffer of `samples` at the frame `point`, into `first` and `rest`.
+#[tactic(auto, unfolding(crate::specs::Parting::split_shapes, crate::specs::Parting::both_fitted))]
 pub fn split(
     shape: Shape,
     samples: &[u32],
     point: usize,
     first: &mut [u32],
     rest: &mut [u32],
-) -> Parted
+) -> Result<(Shape, Shape), Refusal>
     ensures { (result ≡ both_fitted (split_shapes shape (length samples.now) point) (length first.old) (length rest.old))
-        × (first.new ≡ stored (parted_answer result) (first_part shape samples.now point) first.old)
-        × (rest.new ≡ stored (parted_answer result) (rest_part shape samples.now point) rest.old) }
+        × (first.new ≡ stored (answer_of result) (first_part shape samples.now point) first.old)
+        × (rest.new ≡ stored (answer_of result) (rest_part shape samples.now point) rest.old) }
 {
-    let parted = split_shapes(shape, samples.len(), point);
-    let answer = both_fitted(parted, first.len(), rest.len());
-    if let Parted::Buffers(_, _) = answer {
-        let size = shape.frames - point;
-        cut_channels(first, samples, shape.frames, 0, point, shape.channels);
-        cut_channels(rest, samples, shape.frames, point, size, shape.channels);
-    }
-    answer
+    let channels = Channels::new(shape.channels, shape.frames, samples)?;
+    let (before, after) = split_shapes(shape, samples.len(), point)?;
+    check_length(before, first.len())?;
+    check_length(after, rest.len())?;
+    cut_channels(first, channels, 0, before.frames);
+    cut_channels(rest, channels, before.frames, after.frames);
+    Ok((before, after))
 }

@@ -1,14 +1,10 @@
 -- `clip::offsets_match` meets its contract. The invariant: the offsets of the first c channels are right. Assumes nothing.
 use mathlib.Core.Path.{◌≡◌}
 use mathlib.Core.Bool.{true}
-use Prim.Native.Nat.{◌-◌, ◌≤◌}
 use lib.Dec.{eqb}
 use Rattle.clip.specs.Layout.{offset}
 use Rattle.clip.specs.Reading.{each, offset_field}
 use Rattle.clip.proofs.offsets_match.Given as goal
 
 abbrev pub invariant-loop-c : goal.invariant-loop-c
-invariant-loop-c l = (l.c ≤ l.channels) × (each l.c (λ k. eqb (offset_field l.file k) (offset l.channels l.frames k)) ≡ true)
-
-abbrev pub decreases-loop-c : goal.decreases-loop-c
-decreases-loop-c l = l.channels - l.c
+invariant-loop-c l = (each l.c (λ k. eqb (offset_field l.file k) (offset l.channels l.frames k)) ≡ true)

@@ -1,15 +1,12 @@
-use mathlib.Core.Path.{refl}
-use native.Mathlib.Omega.{arith}
-use lib.ListN.{length-set}
-use borrow.Author.Rules.{rules}
+use Rattle.std.proofs.Common.{arith}
 use Rattle.lists.specs.Table.{filled_none, filled_more, filled_end}
 use Rattle.clip.proofs.read_words.Goals as goal
 
 pub loop-i-init : goal.loop-i-init
-loop-i-init c = (search rules, refl, filled_none _ _)
+loop-i-init c = filled_none _ _
 
 pub loop-i-preserved : goal.loop-i-preserved
-loop-i-preserved c = (search rules, simp length-set c.loop-i.invariant.1, filled_more _ _ _ _ _ c.loop-i.invariant.2 c.u32_at.ensures.0)
+loop-i-preserved c = filled_more _ _ _ _ _ c.loop-i.invariant c.u32_at.ensures
 
 pub returns : goal.returns
-returns c = filled_end _ _ _ _ c.loop-i.invariant.2 (omega arith)
+returns c = filled_end _ _ _ _ c.loop-i.invariant (omega arith)

@@ -1,19 +1,11 @@
--- `buffer::copies::checked` meets its contract: at each `return`, the tests that led there are rewritten with. Assumes nothing.
-use Rattle.std.proofs.Common.{sym, ap, arith, le-ltb, lt-ltb}
-use Rattle.buffer.specs.Copies.{copied}
-use Rattle.buffer.specs.declared.Copied.TheVariants.{Frames}
+-- `buffer::copies::checked` meets its contract: a channel below the count lies within samples of a valid shape. Assumes nothing.
+use Rattle.std.proofs.Common.{◌*◌, ◌≤◌, mul-le-mul, arith}
+use Rattle.lists.specs.Rows.{row_fits}
 use Rattle.buffer.proofs.copies.checked.Goals as goal
 
-pub returns-then-not-is_valid_shape : goal.returns-then-not-is_valid_shape
-unfolding copied
-returns-then-not-is_valid_shape c = simp (sym c.is_valid_shape.ensures, c.if-not-is_valid_shape.true)
-
-pub returns-then-number-channels : goal.returns-then-number-channels
-unfolding copied
-returns-then-number-channels c = simp (sym c.is_valid_shape.ensures, c.if-not-is_valid_shape.false, le-ltb _ _ c.if-number-channels.true)
-
-pub returns : goal.returns
-unfolding copied
-returns c =
-    simp (sym c.is_valid_shape.ensures, c.if-not-is_valid_shape.false, lt-ltb _ _ c.if-number-channels.false)
-    (ap Frames (omega arith))
+pub returns-clause-within : goal.returns-clause-within
+returns-clause-within c =
+    let v = c.in_ok-check_shape.ensures.valid in
+    let row = row_fits c.args.frames c.args.number c.args.channels c.if-number-channels.false in
+    let most : c.args.channels * c.args.frames ≤ 32 * 16777216 = mul-le-mul v.few v.short in
+    (omega (arith, v.full), omega (arith, v.full), omega arith, omega arith, omega arith)

@@ -1,0 +1,22 @@
+// An output that is written part by part.
+ghost use Rattle.std.specs.Prelude.{◌≡◌, ℕ, ◌*◌, ◌<◌, List, length};
+ghost use Rattle.lists.specs.Rows.{rows};
+
+// Writes each of `count` parts of `size` frames, one after another, by a call with its number.
+pub(crate) fn write_parts<F: Fn(&mut [u32], usize)>(
+    out: &mut [u32],
+    size: usize,
+    count: usize,
+    write: F,
+)
+    requires full { length out.old ≡ size * count }
+    requires callable { (part : _) (c : ℕ) → c < count → length part.now ≡ size → F.pre write part c }
+    ensures { (f : ℕ → List ℕ) → ((part : _) (c : ℕ) (after : _) → c < count → length part.now ≡ size → F.post write part c tt after → after.now ≡ f c)
+        → ((c : ℕ) → c < count → length (f c) ≡ size)
+        → out.new ≡ rows count f }
+{
+    for c in 0..count {
+        let at = size * c;
+        write(&mut out[at..at + size], c);
+    }
+}
