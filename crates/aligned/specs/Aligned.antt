@@ -1,12 +1,10 @@
 -- The aligned block (document 01, 'Aligned block'; the Rust's fast track): which frame each sample plays, and the position afterwards.
 -- n is the block length. Definitions only.
-use Rattle.std.specs.Prelude.{Bool, ◌&&◌, cond, List, ℕ, zero, suc, ◌-◌, leb, get_or, Float}
+use Rattle.std.specs.Prelude.{Bool, ◌&&◌, cond, List, ℕ, zero, suc, ◌-◌, leb, get_or, Float, Option, None, Some}
 use Rattle.std.specs.Float.{binary64}
 use Rattle.std.specs.Float.Ieee.{add, mul, div, rem, lt, to_unsigned}
 use Rattle.rounding.specs.Rounding.{whole, round_away}
 use Rattle.seconds.specs.Seconds.{block_seconds}
-use Rattle.aligned.specs.declared.Wrap.{Wrap}
-use Rattle.aligned.specs.declared.Wrap.TheVariants.{Never, At}
 
 -- the first frame: position × rate, rounded
 unfoldable pub first_frame : Float → Float → ℕ
@@ -30,11 +28,11 @@ unfoldable pub aligned_sample : Bool → ℕ → ℕ → List ℕ → ℕ → �
 aligned_sample turns frames first channel i = get_or channel (played turns frames (next_frame turns frames first i)) 0
 
 -- the last sample below i at which frame 0 was started over
-unfoldable pub last_wrap : Bool → ℕ → ℕ → ℕ → Wrap
-last_wrap turns frames first zero = Never
-last_wrap turns frames first (suc i) = cond (turns && leb frames (next_frame turns frames first i)) (At i) (last_wrap turns frames first i)
+unfoldable pub last_wrap : Bool → ℕ → ℕ → ℕ → Option ℕ
+last_wrap turns frames first zero = None
+last_wrap turns frames first (suc i) = cond (turns && leb frames (next_frame turns frames first i)) (Some i) (last_wrap turns frames first i)
 
 -- after a wrap, ((n − last wrap index) / rate) % duration; otherwise the position grows by D
-unfoldable pub aligned_position : ℕ → Float → Float → Float → Wrap → Float
-aligned_position n position rate seconds Never = add binary64 position (block_seconds n rate)
-aligned_position n position rate seconds (At i) = rem binary64 (div binary64 (whole (n - i)) rate) seconds
+unfoldable pub aligned_position : ℕ → Float → Float → Float → Option ℕ → Float
+aligned_position n position rate seconds None = add binary64 position (block_seconds n rate)
+aligned_position n position rate seconds (Some i) = rem binary64 (div binary64 (whole (n - i)) rate) seconds

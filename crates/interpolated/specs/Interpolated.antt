@@ -1,14 +1,15 @@
 -- The bits of a sub-sample block's samples (document 01, 'Sub-sample block'; the Rust's slow track), from a channel's frames. Definitions only.
-use Rattle.std.specs.Prelude.{Bool, false, ◌||◌, cond, List, ℕ, ◌+◌, ◌-◌, min, ltb, eqb, get_or, Float}
-use Rattle.std.specs.Float.{nan, binary64}
+use Rattle.std.specs.Prelude.{◌||◌, cond, List, ℕ, ◌+◌, ◌-◌, min, ltb, eqb, get_or, Float, Option, None, Some}
+use Rattle.std.specs.Float.{binary64}
 use Rattle.std.specs.Float.Ieee.{of_bits, sub, mul, le, eq, to_unsigned}
 use Rattle.rounding.specs.Rounding.{floor, widen, narrow}
 use Rattle.fused.specs.Fused.{fma}
 use Rattle.seconds.specs.Seconds.{none, one}
 use Rattle.sub_sample.specs.Near.{is_near}
-use Rattle.sub_sample.specs.SubSample.{info_of}
 use Rattle.sub_sample.specs.declared.Settings.{Settings}
+use Rattle.sub_sample.specs.Infos.{entry}
 use Rattle.sub_sample.specs.declared.PlaybackInfo.{PlaybackInfo}
+use Rattle.sub_sample.specs.declared.Infos.{Infos}
 
 -- the frame at which the sample after the last is found, looped: with the output's rate, and the last frame at most
 unfoldable pub loop_frame : Settings → ℕ
@@ -35,13 +36,13 @@ following s channel frame k =
 unfoldable pub between : Float → Float → Float → ℕ
 between k frame next = narrow (fma binary64 (sub binary64 one k) frame (mul binary64 k next))
 
-unfoldable pub sample_of : Settings → List ℕ → PlaybackInfo → ℕ
-sample_of s channel info =
+-- a sample that plays no frame is 0
+unfoldable pub sample_of : Settings → List ℕ → Option PlaybackInfo → ℕ
+sample_of s channel None = 0
+sample_of s channel (Some info) =
     let frame = info.prev_frame_index.0 in
-    cond info.present
-    (between info.k (widen (get_or channel frame 0)) (following s channel frame info.k))
-    0
+    between info.k (widen (get_or channel frame 0)) (following s channel frame info.k)
 
--- sample i of a channel by the arrays
-unfoldable pub sample_by : Settings → List ℕ → List Float → List Bool → List ℕ → ℕ → ℕ
-sample_by s frame fraction present channel i = sample_of s channel (info_of (get_or present i false) (get_or frame i 0) (get_or fraction i nan))
+-- sample i of a channel, by what each sample of the block plays
+unfoldable pub sample_by : Settings → Infos → List ℕ → ℕ → ℕ
+sample_by s infos channel i = sample_of s channel (entry infos i)

@@ -29,6 +29,7 @@ pub fn widened(x: f32) -> f64
 }
 
 // The seconds from one sample to the next.
+#[tactic(auto, unfolding(crate::specs::Seconds::dt))]
 pub fn sample_seconds(rate: f32) -> f64
     ensures { result ≡ dt rate }
 {
@@ -42,6 +43,7 @@ pub fn block_seconds(rate: f32) -> f64
 }
 
 // Where the block that begins at `time` ends.
+#[tactic(auto, unfolding(crate::specs::Seconds::block_end))]
 pub fn block_end(time: f64, rate: f32) -> f64
     ensures { result ≡ block_end 128 time rate }
 {

@@ -1,5 +1,5 @@
 -- The sub-sample block (document 01, 'Sub-sample block'; the Rust's slow track), sample by sample in the Rust's order. Definitions only.
-use Rattle.std.specs.Prelude.{Bool, true, false, not, ◌&&◌, ◌||◌, cond, ℕ, zero, suc, ltb, Float}
+use Rattle.std.specs.Prelude.{Bool, true, not, ◌&&◌, ◌||◌, cond, ℕ, zero, suc, ltb, Float, Option, None, Some}
 use Rattle.std.specs.Float.{binary64}
 use Rattle.std.specs.Float.Ieee.{add, sub, mul, lt, le, to_unsigned}
 use Rattle.rounding.specs.Rounding.{whole, magnitude, floor, rem_euclid}
@@ -19,8 +19,8 @@ head_of start offset position elapsed started entered = record {
   entered_loop = entered;
 }
 
-abbrev pub info_of : Bool → ℕ → Float → PlaybackInfo
-info_of present frame k = record { present = present; prev_frame_index = record { 0 = frame }; k = k }
+abbrev pub info_of : ℕ → Float → PlaybackInfo
+info_of frame k = record { prev_frame_index = record { 0 = frame }; k = k }
 
 -- sample i's instant
 abbrev pub instant_of : Settings → ℕ → Float
@@ -92,17 +92,17 @@ settled h =
     head_of h.start_time.0 h.offset.0 (cond (is_near_zero h.buffer_time.0) none h.buffer_time.0)
     h.buffer_time_elapsed.0 h.started h.entered_loop
 
--- ---- the frame and the fraction at a position
+-- ---- the frame and the fraction at a position within the clip
 unfoldable pub playhead : Settings → Float → Float
 playhead s x = mul binary64 (mul binary64 x s.sampling_ratio) s.sample_rate
 
-unfoldable pub info_at : Settings → Float → PlaybackInfo
+unfoldable pub info_at : Settings → Float → Option PlaybackInfo
 info_at s x =
     let floored = floor binary64 (playhead s x) in
     let frame = to_unsigned 64 floored in
     cond (le none x && lt x s.buffer_duration.0 && ltb frame s.buffer_length)
-    (info_of true frame (sub binary64 (playhead s x) floored))
-    (info_of false 0 none)
+    (Some (info_of frame (sub binary64 (playhead s x) floored)))
+    None
 
 -- ---- on to the next sample
 unfoldable pub advanced : Settings → Playhead → Playhead
@@ -123,11 +123,11 @@ stepped s i h =
     let k = snapped s now h in
     cond (is_idle s now k) k (advanced s (placed s now k))
 
-unfoldable pub info_of_sample : Settings → ℕ → Playhead → PlaybackInfo
+unfoldable pub info_of_sample : Settings → ℕ → Playhead → Option PlaybackInfo
 info_of_sample s i h =
     let now = instant_of s i in
     let k = snapped s now h in
-    cond (is_idle s now k) (info_of false 0 none) (info_at s (placed s now k).buffer_time.0)
+    cond (is_idle s now k) None (info_at s (placed s now k).buffer_time.0)
 
 -- the playhead before sample i
 unfoldable pub head_at : Settings → Playhead → ℕ → Playhead

@@ -37,15 +37,15 @@ pub struct Playhead {
     pub entered_loop: bool,
 }
 
-// The frame that a sample plays and the fraction of the way to the next one, if it plays any.
+// The frame that a sample plays, and the fraction of the way to the next one.
 #[derive(Clone, Copy)]
 pub struct PlaybackInfo {
-    pub present: bool,
     pub prev_frame_index: FrameNumber,
     pub k: f64,
 }
 
-// A `PlaybackInfo` for each sample of a block.
+// What each sample of a block plays: a frame, a fraction, and whether it plays any. Three arrays: with an
+// array of options a block of one channel runs 10 % more instructions, and one of 32 channels 4 %.
 #[derive(Drop)]
 pub struct Infos {
     pub frame: [usize; 128],
@@ -63,6 +63,6 @@ pub struct Filled {
 // What a sample of a sub-sample block plays, and the playhead after it.
 #[derive(Clone, Copy)]
 pub struct SampleStep {
-    pub info: PlaybackInfo,
+    pub info: Option<PlaybackInfo>,
     pub head: Playhead,
 }

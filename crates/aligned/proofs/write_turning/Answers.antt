@@ -1,33 +1,31 @@
-use mathlib.Core.Path.{refl, ap, ◌∙◌}
-use Prim.Native.Nat.{◌+◌}
-use native.Mathlib.Omega.{arith}
-use lib.ListN.{length, length-set}
+use Rattle.std.proofs.Common.{◌≡◌, ◌∙◌, true, refl, ap, arith, ◌+◌, length}
+use borrow.Author.Tests.{le-leb, lt-leb}
+use Rattle.lists.specs.Cases.{taken, left}
 use Rattle.lists.specs.Table.{filled_none, filled_more, filled_end}
-use mathlib.Core.Bool.{true}
-use Rattle.aligned.specs.Aligned.{next_frame}
-use Rattle.aligned.proofs.Turning.{played_below, next_more, sample_turning}
-use borrow.Author.Rules.{rules}
+use Rattle.aligned.specs.Aligned.{played, next_frame}
+use Rattle.aligned.proofs.Turning.{next_more, sample_turning, silence}
+use Rattle.aligned.proofs.write_turning.Goals.{then-next-channel, else-next-channel}
 use Rattle.aligned.proofs.write_turning.Goals as goal
 
-pub loop-i-init : goal.loop-i-init
+pub loop-sample-init : goal.loop-sample-init
 unfolding next_frame
-loop-i-init c = (search rules, refl, filled_none _ _, refl)
+loop-sample-init c = (filled_none _ _, refl)
 
-pub overflow_add-next : goal.overflow_add-next
-overflow_add-next c = omega (arith, c.played_frame-frame.ensures, played_below (length c.args.channel.now) c.loop-i.next)
-
-pub loop-i-preserved : goal.loop-i-preserved
-loop-i-preserved c =
-    let at = c.loop-i in
-    let frame = c.played_frame-frame.ensures in (
-      search rules,
-      simp length-set at.invariant.1,
-      filled_more _ _ _ _ _ at.invariant.2 (sample_turning _ _ _ _ _ _ _ at.invariant.3 frame c.frame_or_zero.ensures),
-      ap (λ k. k + 1) frame ∙ next_more true _ _ _ _ at.invariant.3,
+pub loop-sample-preserved : goal.loop-sample-preserved
+unfolding played
+loop-sample-preserved c =
+    let at = c.loop-sample in
+    let frame : c.if-next-channel.next ≡ played true (length c.args.channel.now) at.next =
+    elim c.if-next-channel.branch [
+      | then-next-channel w ↦ taken _ _ _ (le-leb _ _ w.if-next-channel.true) w.next-is
+      | else-next-channel w ↦ left _ _ _ (lt-leb _ _ w.if-next-channel.false) w.next-is
+    ] in (
+      filled_more _ _ _ _ _ at.invariant.0 (sample_turning _ _ _ _ _ _ _ at.invariant.1 frame refl),
+      ap (λ k. k + 1) frame ∙ next_more true _ _ _ _ at.invariant.1,
     )
 
-pub shape_of-part : goal.shape_of-part
-shape_of-part c = c.loop-i.invariant.1
-
 pub returns : goal.returns
-returns c = filled_end _ _ _ _ c.loop-i.invariant.2 (omega arith)
+returns c = filled_end _ _ _ _ c.loop-sample.invariant.0 (omega arith)
+
+pub returns-then-is_empty : goal.returns-then-is_empty
+returns-then-is_empty c = c.fill.ensures.after (λ y e. e) ∙ silence _ _ _ _ (grind arith)

@@ -1,12 +1,7 @@
--- `aligned::write_within` meets its contract. The invariant: the first i elements are filled, the others are as they were. Assumes nothing.
-use mathlib.Core.Path.{◌≡◌}
-use Prim.Native.Nat.{◌+◌, ◌-◌, ◌≤◌}
-use lib.ListN.{length, get_or}
+-- `aligned::write_within` meets its contract. The invariant: the first i samples are written. Assumes nothing.
+use Rattle.std.proofs.Common.{◌≡◌, ◌+◌, get_or}
 use Rattle.lists.specs.Table.{filled}
 use Rattle.aligned.proofs.write_within.Given as goal
 
 abbrev pub invariant-loop-i : goal.invariant-loop-i
-invariant-loop-i l = (l.i ≤ length l.initial.part) × (length l.part ≡ length l.initial.part) × (l.part ≡ filled l.i (λ k. get_or l.channel (l.first + k) 0) l.initial.part)
-
-abbrev pub decreases-loop-i : goal.decreases-loop-i
-decreases-loop-i l = length l.initial.part - l.i
+invariant-loop-i l = l.part ≡ filled l.i (λ k. get_or l.channel (l.first + k) 0) l.initial.part

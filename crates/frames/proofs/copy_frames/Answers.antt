@@ -1,20 +1,18 @@
-use mathlib.Core.Path.{refl}
-use native.Mathlib.Omega.{arith}
-use lib.ListN.{length-set}
-use borrow.Author.Rules.{rules}
-use Rattle.lists.specs.Table.{filled_none, filled_more, copied_end}
+-- `frames::copy_frames` meets its contract: the number of frames that both have may be cut from either length. Assumes nothing.
+use Rattle.std.proofs.Common.{◌≡◌, ◌∙◌, arith, ap, List, ◌++◌, ℕ, min, length}
+use Rattle.std.proofs.Math.ListN.{take, drop}
+use Rattle.std.proofs.lemmas.List.{take_min}
+use Rattle.lists.specs.Parts.{drop_min}
+use Rattle.lists.specs.Table.{over}
 use Rattle.frames.proofs.copy_frames.Goals as goal
 
-pub loop-i-init : goal.loop-i-init
-loop-i-init c = (search rules, refl, filled_none _ _)
-
-pub loop-i-preserved : goal.loop-i-preserved
-loop-i-preserved c = (search rules, simp length-set c.loop-i.invariant.1, filled_more _ _ _ _ _ c.loop-i.invariant.2 refl)
-
-pub shape_of-to : goal.shape_of-to
-shape_of-to c = c.loop-i.invariant.1
+copied : (n : ℕ) (from to : List ℕ) → n ≡ min (length to) (length from) → take n from ++ drop n to ≡ over from to
+unfolding over
+copied n from to both =
+    let flipped : n ≡ min (length from) (length to) = omega arith in
+    let front = ap (λ k. take k from) both ∙ take_min (length to) from in
+    let back = ap (λ k. drop k to) flipped ∙ drop_min (length from) to in
+    rw (front, back)
 
 pub returns : goal.returns
-returns c =
-    let from = c.args.from.now in
-    copied_end _ from _ _ 0 c.loop-i.invariant.2 (omega arith)
+returns c = rw c.copy_from_slice.ensures.after (copied _ _ _ c.min-n.ensures)
