@@ -10,37 +10,37 @@ use lib.Ieee.{Float, nan, fin, le, ne, of_bits}
 use lib.Ieee.Bits.{is_true}
 use lib.Ieee.Scale.{finite}
 use borrow.Author.Tests.{not-true, not-false}
-use Rattle.buffer.specs.Refusals.{CENTS}
+use Rattle.buffer.specs.declared.refusals.Refusal.TheVariants as refused
 use Rattle.seconds.specs.Seconds.{never, one, block_end}
 use Rattle.detune.specs.Detune.{bad_cents, factor_of, factored}
-use Rattle.detune.specs.declared.Detune.{Detune}
-use Rattle.detune.specs.declared.Detune.TheVariants.{By, Refused as Refused'}
+use Rattle.buffer.specs.declared.refusals.Refusal.{Refusal}
+use Rattle.std.specs.Prelude.{Result, Ok, Err}
 use Rattle.detune.proofs.Range.{not_slow, not_fast}
-use Rattle.player.specs.Block.{refusal, bad_rate, plan, is_silent, rendered, output}
+use Rattle.player.specs.Block.{checked, bad_rate, plan, is_silent, rendered, output}
 use Rattle.player.specs.declared.Player.{Player}
 use Rattle.cents.specs.Cents.{rendered_cents, output_cents, factored_at}
 use Rattle.cents.proofs.Same.{same_answer, same_output}
 
 -- ---- `factored_at`, by its cases
-abbrev is_by : Detune → Bool
-is_by (By factor) = true
-is_by (Refused' number) = false
+abbrev is_by : Result Float Refusal → Bool
+is_by (Ok factor) = true
+is_by (Err refusal) = false
 
-abbrev factor_in : Detune → Float
-factor_in (By factor) = factor
-factor_in (Refused' number) = nan
+abbrev factor_in : Result Float Refusal → Float
+factor_in (Ok factor) = factor
+factor_in (Err refusal) = nan
 
-is_by_lem : (b : Bool) (factor : Float) → is_by (cond b (Refused' CENTS) (By factor)) ≡ not b
+is_by_lem : (b : Bool) (factor : Float) → is_by (cond b (Err refused.Cents) (Ok factor)) ≡ not b
 is_by_lem true factor = refl
 is_by_lem false factor = refl
 
 module _ (n : ℕ) (p : Player) (time : Float) (cents : ℤ) where
   -- what is handed on
-  pub at_refused : bad_cents cents ≡ true → factored_at n p time cents ≡ Refused' CENTS
+  pub at_refused : bad_cents cents ≡ true → factored_at n p time cents ≡ Err refused.Cents
   unfolding factored_at
   at_refused bad = rw bad
 
-  pub at_silent : is_silent n p time ≡ true → bad_cents cents ≡ false → factored_at n p time cents ≡ By one
+  pub at_silent : is_silent n p time ≡ true → bad_cents cents ≡ false → factored_at n p time cents ≡ Ok one
   unfolding factored_at
   at_silent silent good = rw (silent, good)
 
@@ -53,13 +53,13 @@ module _ (n : ℕ) (p : Player) (time : Float) (cents : ℤ) where
   unfolding factored_at
   tells = is_by_lem (bad_cents cents) _
 
-  at_good : (factor : Float) → factored_at n p time cents ≡ By factor → bad_cents cents ≡ false
+  at_good : (factor : Float) → factored_at n p time cents ≡ Ok factor → bad_cents cents ≡ false
   at_good factor e = not-true (bad_cents cents) (sym tells ∙ ap is_by e)
 
-  pub at_bad : (number : ℕ) → factored_at n p time cents ≡ Refused' number → bad_cents cents ≡ true
-  at_bad number e = not-false (bad_cents cents) (sym tells ∙ ap is_by e)
+  pub at_bad : (refusal : Refusal) → factored_at n p time cents ≡ Err refusal → bad_cents cents ≡ true
+  at_bad refusal e = not-false (bad_cents cents) (sym tells ∙ ap is_by e)
 
-own : (cents : ℤ) → bad_cents cents ≡ false → factored cents ≡ By (factor_of cents)
+own : (cents : ℤ) → bad_cents cents ≡ false → factored cents ≡ Ok (factor_of cents)
 unfolding factored
 own cents good = rw good
 
@@ -95,15 +95,15 @@ module _ (n : ℕ) (p : Player) (time rate : Float) where
 
   module _ (f g : Float) (checks : bad_rate rate f ≡ bad_rate rate g) (plans : plan n p time rate f ≡ plan n p time rate g) where
     block_answer_lem : (outLength samplesLength : ℕ) → rendered n p outLength samplesLength time rate f ≡ rendered n p outLength samplesLength time rate g
-    unfolding rendered refusal
+    unfolding rendered checked
     block_answer_lem outLength samplesLength = rw (checks, plans)
 
     block_output : (out samples : List ℕ) → output n p out samples time rate f ≡ output n p out samples time rate g
-    unfolding output refusal
+    unfolding output checked
     block_output out samples = rw (checks, plans)
 
   -- ---- the block in cents is the block with the factor that is handed on
-  module _ (cents : ℤ) (factor : Float) (e : factored_at n p time cents ≡ By factor) where
+  module _ (cents : ℤ) (factor : Float) (e : factored_at n p time cents ≡ Ok factor) where
     good : bad_cents cents ≡ false
     good = at_good n p time cents factor e
 

@@ -5,20 +5,20 @@
 ghost use Rattle.std.specs.Prelude.{◌≡◌, length};
 ghost use Rattle.cents.specs.Cents.{rendered_cents, output_cents, factored_at};
 
-use buffer::refusals;
-use detune::Detune;
-use player::{Player, Rendered};
+use buffer::Refusal;
+use player::{BlockReport, Player};
 
 // What a block in cents asks of the factor. The table of cents is looked up only for a block that
 // plays.
-pub fn factor_at(p: Player, time: f64, cents: i32) -> Detune
+#[tactic(auto, using(crate::proofs::Silent::at_refused, crate::proofs::Silent::at_silent, crate::proofs::Silent::at_playing))]
+pub fn factor_at(p: Player, time: f64, cents: i32) -> Result<f64, Refusal>
     ensures { result ≡ factored_at 128 p time cents }
 {
     if p.is_silent(time) {
         if detune::is_bad_cents(cents) {
-            return Detune::Refused(refusals::CENTS);
+            return Err(Refusal::Cents);
         }
-        return Detune::By(1.0);
+        return Ok(1.0);
     }
     detune::factor(cents)
 }
@@ -31,14 +31,15 @@ pub fn process_cents(
     time: f64,
     rate: f32,
     cents: i32,
-) -> Rendered
+) -> Result<BlockReport, Refusal>
     ensures { (result ≡ rendered_cents 128 p (length out.old) (length samples.now) time rate cents)
         × (out.new ≡ output_cents 128 p out.old samples.now time rate cents) }
 {
     match factor_at(p, time, cents) {
-        Detune::By(factor) => p.process(out, samples, time, rate, factor),
-        Detune::Refused(_) => {
-            Rendered::Refused(p.block_refusal(out.len(), samples.len(), time, true, rate, 1.0))
+        Ok(factor) => p.process(out, samples, time, rate, factor),
+        Err(refusal) => {
+            p.check_block(out.len(), samples.len(), time, true, rate, 1.0)?;
+            Err(refusal)
         }
     }
 }

@@ -1,9 +1,8 @@
 -- An accepted block of a player from its first block on: what its acceptance says, and what it gave. Assumes nothing.
 use mathlib.Core.Path.{◌≡◌, refl, ap, ap₂, ◌∙◌}
-use mathlib.Core.Bool.{Bool, true, false, not, ◌&&◌, ◌||◌, cond, true≢false, false≢true}
+use mathlib.Core.Bool.{Bool, true, false, not, ◌&&◌, ◌||◌, true≢false, false≢true}
 use mathlib.Core.List.{List}
 use Prim.Native.Nat.{ℕ, ◌+◌, ◌*◌, ◌≤◌, ◌<◌}
-use native.Mathlib.Omega.{arith}
 use borrow.Author.Tests.{eqb-true, not-false}
 use lib.Dec.{T, eqb}
 use lib.ListN.{length, get_or}
@@ -12,9 +11,12 @@ use lib.Ieee.Fits.{and_l}
 use lib.Ieee.Scale.{finite}
 use Rattle.seconds.specs.Seconds.{none, one}
 use Rattle.buffer.specs.Channels.{channel}
-use Rattle.player.specs.Block.{Plan, plan, latest, bad_block_time, bad_rate, bad_samples, refusal, rendered, output, written, report_of}
-use Rattle.player.specs.declared.Rendered.{Rendered}
-use Rattle.player.specs.declared.Rendered.TheVariants.{Block, Refused}
+use Rattle.player.specs.Block.{Plan, plan, latest, bad_block_time, bad_rate, bad_samples, checked, rendered, output, written, report_of}
+use Rattle.buffer.specs.declared.refusals.Refusal.{Refusal}
+use Rattle.std.specs.Prelude.{Result, Ok, Err}
+use Rattle.buffer.specs.Answers.{answer_of, stored, after_checks}
+use Rattle.buffer.proofs.Checks.{all_passed}
+use Rattle.player.specs.declared.BlockReport.{BlockReport}
 use Rattle.claims.specs.Calls.{Call, buffer, message, block, is_block, moved, answered, accepts, next, typed, channels_by, output_by}
 use Rattle.claims.specs.LongRun.{PlainBlock}
 use Rattle.claims.proofs.Laws.{Time}
@@ -34,17 +36,6 @@ plain samples (block out s time rate factor) h =
     record { out = out; time = time; is = ap₂ (λ (a : List ℕ) (b : Float). block out a time b factor) h.0 h.1 ∙ ap (λ (b : Float). block out samples time one b) h.2 }
 
 -- ---- what acceptance says
-all_pass : (a b c d : Bool) → ◌≡◌ {A = ℕ} (cond a 8 (cond b 13 (cond c 14 (cond d 1 0)))) 0 → (a ≡ false) × (b ≡ false)
-all_pass true b c d h = absurd (no h)
-  where
-    no : ◌≡◌ {A = ℕ} 8 0 → ⊥
-    no h = omega arith
-all_pass false true c d h = absurd (no h)
-  where
-    no : ◌≡◌ {A = ℕ} 13 0 → ⊥
-    no h = omega arith
-all_pass false false c d h = (refl, refl)
-
 pub record Times (f n l o : Bool) : Type 0 where
   pub finite : f ≡ true
   pub some : n ≡ false
@@ -58,9 +49,9 @@ times true false true o h = absurd (true≢false h)
 times true true l o h = absurd (true≢false h)
 times false n l o h = absurd (true≢false h)
 
-block_taken : (b : Bool) (q : Rendered) (n : ℕ) → is_block (cond b q (Refused n)) ≡ true → b ≡ true
-block_taken true q n h = refl
-block_taken false q n h = absurd (false≢true h)
+block_taken : (checks : Result Unit Refusal) (r : BlockReport) → is_block (after_checks checks r) ≡ true → checks ≡ Ok tt
+block_taken (Ok tt) r h = refl
+block_taken (Err refused) r h = absurd (false≢true h)
 
 -- by the plan
 pub record Taken (s : Setup) (x : State) (out samples : List ℕ) (t : Float) : Type 0 where
@@ -72,20 +63,19 @@ pub record Taken (s : Setup) (x : State) (out samples : List ℕ) (t : Float) : 
   pub output_is : output_by (standing s x) (block out samples t one one) ≡ written 128 (plan 128 (standing s x) t one one).sample s.frames samples out (plan 128 (standing s x) t one one).channels
 
 pub taken : (s : Setup) (x : State) (out samples : List ℕ) (t : Float) → accepts (standing s x) (block out samples t one one) ≡ true → T (typed (block out samples t one one)) → Taken s x out samples t
-unfolding accepts next rendered output refusal bad_block_time
+unfolding accepts next rendered output checked bad_block_time
 taken s x out samples t h f =
     let p = standing s x in
-    let number = refusal 128 p (length out) (length samples) t one one in
-    let pass : eqb number 0 ≡ true = block_taken (eqb number 0) (Block (report_of (plan 128 p t one one))) number h in
-    let all = all_pass (not (eqb (length out) 4096)) (bad_block_time p t) (bad_rate one one) (bad_samples p (length samples)) (eqb-true number 0 pass) in
-    let w = times (finite t) (lt t none) (lt latest t) (x.has_block && le t x.time) all.1 in
+    let passed : checked 128 p (length out) (length samples) t one one ≡ Ok tt = block_taken _ (report_of (plan 128 p t one one)) h in
+    let all = all_passed (not (eqb (length out) 4096)) (bad_block_time p t) false (bad_rate one one) (bad_samples p (length samples)) passed in
+    let w = times (finite t) (lt t none) (lt latest t) (x.has_block && le t x.time) all.time in
     record {
-      whole = eqb-true (length out) 4096 (not-false (eqb (length out) 4096) all.0);
+      whole = eqb-true (length out) 4096 (not-false (eqb (length out) 4096) all.length);
       time = record { single = and_l (fits binary64 t) (fits binary32 one && fits binary64 one) f; whole = w.finite; some = w.some; early = w.early };
       fresh = w.later;
-      next_is = ap (λ (b : Bool). moved (cond b (Block (report_of (plan 128 p t one one))) (Refused number)) p) pass;
-      channels_is = ap (λ (b : Bool). answered (cond b (Block (report_of (plan 128 p t one one))) (Refused number))) pass;
-      output_is = ap (λ (b : Bool). cond b (written 128 (plan 128 p t one one).sample s.frames samples out (plan 128 p t one one).channels) out) pass;
+      next_is = ap (λ (k : Result Unit Refusal). moved (after_checks k (report_of (plan 128 p t one one))) p) passed;
+      channels_is = ap (λ (k : Result Unit Refusal). answered (after_checks k (report_of (plan 128 p t one one)))) passed;
+      output_is = ap (λ (k : Result Unit Refusal). stored (answer_of k) (written 128 (plan 128 p t one one).sample s.frames samples out (plan 128 p t one one).channels) out) passed;
     }
 
 -- ---- what it gave, by a plan that it is known to have

@@ -1,55 +1,52 @@
 -- Blocks in cents among the calls of demand 3: an accepted one is the block with its factor, a refused one leaves everything, and so does a preview. Assumes nothing.
 use mathlib.Core.Path.{◌≡◌, refl, sym, ap, ◌∙◌}
-use mathlib.Core.Bool.{Bool, true, false, not, ◌&&◌, cond, true≢false, false≢true}
+use mathlib.Core.Bool.{Bool, true, false, not, ◌&&◌, cond, false≢true}
 use mathlib.Core.List.{List, [], ◌∷◌}
 use Prim.Native.Nat.{ℕ}
-use lib.Dec.{T, eqb}
+use lib.Dec.{T}
 use lib.IntN.{ℤ}
 use lib.ListN.{length}
 use lib.Ieee.{Float, binary32, binary64, fits}
 use lib.Ieee.Fits.{and_i, and_l, and_r}
 use Rattle.detune.specs.Detune.{bad_cents, factor_of}
 use Rattle.player.specs.declared.Player.{Player}
-use Rattle.player.specs.declared.BlockReport.{BlockReport}
-use Rattle.player.specs.declared.Rendered.{Rendered}
-use Rattle.player.specs.declared.Rendered.TheVariants.{Block, Refused}
-use Rattle.cents.specs.Cents.{cents_refusal, rendered_cents, output_cents}
-use Rattle.cents.proofs.Same.{same_answer, same_output, refused}
-use Rattle.claims.specs.Calls.{Call, block, typed, all_typed, is_block, next}
+use Rattle.buffer.specs.declared.refusals.Refusal.{Refusal}
+use Rattle.std.specs.Prelude.{Result, Ok, Err}
+use Rattle.cents.specs.Cents.{checked_cents, rendered_cents, output_cents}
+use Rattle.player.specs.Block.{plan, checks, report_of, written}
+use Rattle.buffer.specs.Answers.{answer_of, stored, after_checks}
+use Rattle.cents.proofs.Same.{never, same_answer, same_output, refused}
+use Rattle.claims.specs.Calls.{Call, block, typed, all_typed, is_block, moved, next}
 use Rattle.claims.specs.Longer.{LongerCall, plain, in_cents, preview, preview_in_cents, typed_longer, all_typed_longer, Outcome, outcome, outcome_longer, outcomes, is_left_out, as_call, replaced, kept}
 
 module _ (p : Player) (out samples : List ℕ) (time rate : Float) (cents : ℤ) where
   abbrev call : LongerCall
   call = in_cents out samples time rate cents
 
-  abbrev number : ℕ
-  number = cents_refusal 128 p (length out) (length samples) time rate cents
-
-  left_out_lem : is_left_out p call ≡ not (eqb number 0)
-  unfolding rendered_cents
-  left_out_lem = go (eqb number 0) _ _
-    where
-      go : (b : Bool) (report : BlockReport) (why : ℕ) → not (is_block (cond b (Block report) (Refused why))) ≡ not b
-      go true report why = refl
-      go false report why = refl
-
   pub unmoved : is_left_out p call ≡ true → ((outcome_longer p call).player ≡ p) × ((outcome_longer p call).output ≡ out)
   unfolding rendered_cents output_cents
-  unmoved l = go (eqb number 0) refl
+  unmoved l = go (checked_cents 128 p (length out) (length samples) time rate cents) l
     where
-      go : (b : Bool) → eqb number 0 ≡ b → ((outcome_longer p call).player ≡ p) × ((outcome_longer p call).output ≡ out)
-      go true e = absurd (true≢false (sym l ∙ left_out_lem ∙ ap not e))
-      go false e = (rw e, rw e)
+      go : (k : Result Unit Refusal) → not (is_block (after_checks k (report_of (plan 128 p time rate (factor_of cents))))) ≡ true
+          → (moved (after_checks k (report_of (plan 128 p time rate (factor_of cents)))) p ≡ p)
+          × (stored (answer_of k) (written 128 (plan 128 p time rate (factor_of cents)).sample p.shape.frames samples out (plan 128 p time rate (factor_of cents)).channels) out ≡ out)
+      go (Ok tt) h = absurd (false≢true h)
+      go (Err refused) h = (refl, refl)
 
   pub as_block : bad_cents cents ≡ false → outcome_longer p call ≡ outcome p (block out samples time rate (factor_of cents))
   unfolding next
   as_block e = rw (same_answer 128 p time rate cents e (length out) (length samples), same_output 128 p time rate cents e out samples)
 
+  turned_down : bad_cents cents ≡ true → (k : Result Unit Refusal) → checks 128 p (length out) (length samples) time true rate (factor_of cents) ≡ k
+      → is_block (rendered_cents 128 p (length out) (length samples) time rate cents) ≡ false
+  turned_down bad (Ok tt) h = absurd (never 128 p time rate (length out) (length samples) (factor_of cents) h)
+  turned_down bad (Err first) h = ap is_block (refused 128 p time rate cents out samples (factor_of cents) first bad h).0
+
   accepted_cents : is_left_out p call ≡ false → bad_cents cents ≡ false
   accepted_cents l = go (bad_cents cents) refl
     where
       go : (b : Bool) → bad_cents cents ≡ b → bad_cents cents ≡ false
-      go true e = absurd (false≢true (sym l ∙ ap (λ (r : Rendered). not (is_block r)) (refused 128 p time rate cents e (length out) (length samples))))
+      go true e = absurd (false≢true (sym l ∙ ap not (turned_down e _ refl)))
       go false e = e
 
 -- ---- the whole list

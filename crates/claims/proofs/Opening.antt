@@ -16,8 +16,9 @@ use Rattle.buffer.specs.declared.Shape.{Shape}
 use Rattle.player.specs.declared.Player.{Player}
 use Rattle.player.specs.declared.ControlMessage.{ControlMessage}
 use Rattle.player.specs.declared.ControlMessage.TheVariants.{Start, Stop, Loop, LoopStart, LoopEnd}
-use Rattle.player.specs.declared.Handled.{Handled}
-use Rattle.player.specs.declared.Handled.TheVariants.{Done, Refused}
+use Rattle.buffer.specs.declared.refusals.Refusal.{Refusal}
+use Rattle.std.specs.Prelude.{Result, Ok, Err}
+use Rattle.buffer.specs.declared.refusals.Refusal.TheVariants as refused
 use Rattle.claims.specs.Calls.{Call, buffer, message, block, is_done, left, accepts, next, typed, Event, after, after_all, is_block_call, point_in, gathered}
 use Rattle.claims.proofs.Chain.{Chain, NoBlocks}
 
@@ -126,20 +127,20 @@ module _ (rate : Float) (a : Received) where
 
 -- ---- an accepted call
 -- what the refusals' tests leave
-two_tests : (x y : Bool) (m n : ℕ) (p q : Player) → is_done (cond x (Refused m) (cond y (Refused n) (Done q))) ≡ true → left (cond x (Refused m) (cond y (Refused n) (Done q))) p ≡ q
+two_tests : (x y : Bool) (m n : Refusal) (p q : Player) → is_done (cond x (Err m) (cond y (Err n) (Ok q))) ≡ true → left (cond x (Err m) (cond y (Err n) (Ok q))) p ≡ q
 two_tests true y m n p q h = absurd (false≢true h)
 two_tests false true m n p q h = absurd (false≢true h)
 two_tests false false m n p q h = refl
 
-pub record Four (w x y z : Bool) (a : Handled) (p q : Player) : Type 0 where
+pub record Four (w x y z : Bool) (a : Result Player Refusal) (p q : Player) : Type 0 where
   pub first : w ≡ true
   pub second : x ≡ true
   pub third : y ≡ false
   pub fourth : z ≡ false
   pub result : left a p ≡ q
 
-four_tests : (w x y z : Bool) (p q : Player) → is_done (cond (not w) (Refused 1) (cond (not x) (Refused 2) (cond y (Refused 10) (cond z (Refused 12) (Done q))))) ≡ true
-    → Four w x y z (cond (not w) (Refused 1) (cond (not x) (Refused 2) (cond y (Refused 10) (cond z (Refused 12) (Done q))))) p q
+four_tests : (w x y z : Bool) (p q : Player) → is_done (cond (not w) (Err refused.Shape) (cond (not x) (Err refused.Rate) (cond y (Err refused.Second) (cond z (Err refused.Empty) (Ok q))))) ≡ true
+    → Four w x y z (cond (not w) (Err refused.Shape) (cond (not x) (Err refused.Rate) (cond y (Err refused.Second) (cond z (Err refused.Empty) (Ok q))))) p q
 four_tests false x y z p q h = absurd (false≢true h)
 four_tests true false y z p q h = absurd (false≢true h)
 four_tests true true true z p q h = absurd (false≢true h)
@@ -183,10 +184,10 @@ module _ (seconds : SomeSeconds) (rate : Float) where
   unfolding handled on_start on_stop on_loop
   open_message a (Start when offset length) s h n =
       let b = receive a (message (Start when offset length)) in
-      (two_tests (bad_time when || bad_time offset || bad_time length) a.has_start 9 10 (opened rate a) _ h ∙ clamp_keeps rate b (stands b s), s)
+      (two_tests (bad_time when || bad_time offset || bad_time length) a.has_start refused.Value refused.Second (opened rate a) _ h ∙ clamp_keeps rate b (stands b s), s)
   open_message a (Stop when) s h n =
       let b = receive a (message (Stop when)) in
-      (two_tests (bad_time when) (not a.has_start) 9 11 (opened rate a) _ h ∙ clamp_keeps rate b (stands b s), s)
+      (two_tests (bad_time when) (not a.has_start) refused.Value refused.Early (opened rate a) _ h ∙ clamp_keeps rate b (stands b s), s)
   open_message a (Loop on) s h n = let b = receive a (message (Loop on)) in (clamp_keeps rate b (stands b s), s)
   open_message a (LoopStart at) s h n = absurd (no_point at [] n)
   open_message a (LoopEnd at) s h n = absurd (no_point at [] n)

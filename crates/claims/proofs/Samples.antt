@@ -10,38 +10,16 @@ use lib.ListN.{length, get_or}
 use lib.Ieee.{Float, le, ne}
 use Rattle.buffer.specs.Channels.{channel}
 use Rattle.buffer.specs.Limits.{Valid, valid}
-use Rattle.buffer.specs.Refusals.{LENGTH, TIME, CENTS, SPEED, SHAPE}
+use Rattle.buffer.specs.Answers.{answer_of, stored, after_checks}
+use Rattle.buffer.specs.declared.refusals.Refusal.{Refusal}
+use Rattle.buffer.proofs.Checks.{all_passed}
 use Rattle.player.specs.Block.{Plan, silent, idle, computed_rate, is_aligned, aligned_plan, sub_sample_plan, plan, bad_block_time, bad_rate, bad_samples, checks, report_of, written}
 use Rattle.seconds.specs.Seconds.{never, block_end}
 use Rattle.player.specs.declared.Player.{Player}
 use Rattle.player.specs.declared.BlockReport.{BlockReport}
-use Rattle.player.specs.declared.Rendered.TheVariants.{Block, Refused}
+use Rattle.std.specs.Prelude.{Result, Ok, Err}
 use Rattle.claims.specs.Calls.{answered}
 use Rattle.claims.proofs.Written.{written_at}
-
--- no row refuses: the output's length and the samples are right
-passes : (a b c d e : Bool) → cond a LENGTH (cond b TIME (cond c CENTS (cond d SPEED (cond e SHAPE 0)))) ≡ 0 → (a ≡ false) × (e ≡ false)
-passes true b c d e h = absurd (no h)
-  where
-    no : ◌≡◌ {A = ℕ} 8 0 → ⊥
-    no h = omega arith
-passes false true c d e h = absurd (no h)
-  where
-    no : ◌≡◌ {A = ℕ} 13 0 → ⊥
-    no h = omega arith
-passes false false true d e h = absurd (no h)
-  where
-    no : ◌≡◌ {A = ℕ} 16 0 → ⊥
-    no h = omega arith
-passes false false false true e h = absurd (no h)
-  where
-    no : ◌≡◌ {A = ℕ} 14 0 → ⊥
-    no h = omega arith
-passes false false false false true h = absurd (no h)
-  where
-    no : ◌≡◌ {A = ℕ} 1 0 → ⊥
-    no h = omega arith
-passes false false false false false h = (refl, refl)
 
 -- at most 32 channels
 record Few (q : Plan) : Type 0 where
@@ -55,9 +33,9 @@ silence : (p : Player) (time : Float) (ended keep : Bool) → Few (silent (idle 
 silence p time ended keep = record { few = omega arith }
 
 -- a channel is answered by an accepted block
-taken : (b : Bool) (r : BlockReport) (why c : ℕ) → c < answered (cond b (Block r) (Refused why)) → (b ≡ true) × (c < r.channels)
-taken true r why c h = (refl, h)
-taken false r why c h = absurd (none h)
+taken : (checks : Result Unit Refusal) (r : BlockReport) (c : ℕ) → c < answered (after_checks checks r) → (checks ≡ Ok tt) × (c < r.channels)
+taken (Ok tt) r c h = (refl, h)
+taken (Err refused) r c h = absurd (none h)
   where
     none : c < 0 → ⊥
     none h = omega arith
@@ -83,22 +61,22 @@ module _ (p : Player) (samples : List ℕ) (time rate factor : Float) (bad : Boo
       (λ h. either (is_aligned 128 p time computed) (aligned_plan 128 p time computed) (sub_sample_plan 128 p time rate computed)
       (λ _. record { few = (own good h).few }) (λ _. record { few = (own good h).few })))))
 
-  abbrev number : ℕ → ℕ
-  number outLength = checks 128 p outLength (length samples) time bad rate factor
+  abbrev checked : ℕ → Result Unit Refusal
+  checked outLength = checks 128 p outLength (length samples) time bad rate factor
 
   -- the output that a block leaves, refused or not
   abbrev left : List ℕ → List ℕ
-  left out = cond (eqb (number (length out)) 0) (written 128 q.sample p.shape.frames samples out q.channels) out
+  left out = stored (answer_of (checked (length out))) (written 128 q.sample p.shape.frames samples out q.channels) out
 
-  at : (out : List ℕ) → eqb (number (length out)) 0 ≡ true → (c i : ℕ) → c < q.channels → i < 128 → get_or (left out) (128 * c + i) 0 ≡ q.sample (channel samples p.shape.frames c) i
+  at : (out : List ℕ) → checked (length out) ≡ Ok tt → (c i : ℕ) → c < q.channels → i < 128 → get_or (left out) (128 * c + i) 0 ≡ q.sample (channel samples p.shape.frames c) i
   at out pass c i below within =
-      let all = passes (not (eqb (length out) 4096)) (bad_block_time p time) bad (bad_rate rate factor) (bad_samples p (length samples)) (eqb-true (number (length out)) 0 pass) in
-      let whole : length out ≡ 4096 = eqb-true (length out) 4096 (not-false (eqb (length out) 4096) all.0) in
-      ap (λ (b : Bool). get_or (cond b (written 128 q.sample p.shape.frames samples out q.channels) out) (128 * c + i) 0) pass
-      ∙ written_at q.sample p.shape.frames samples out whole q.channels (planned all.1).few c below i within
+      let all = all_passed (not (eqb (length out) 4096)) (bad_block_time p time) bad (bad_rate rate factor) (bad_samples p (length samples)) pass in
+      let whole : length out ≡ 4096 = eqb-true (length out) 4096 (not-false (eqb (length out) 4096) all.length) in
+      ap (λ (k : Result Unit Refusal). get_or (stored (answer_of k) (written 128 q.sample p.shape.frames samples out q.channels) out) (128 * c + i) 0) pass
+      ∙ written_at q.sample p.shape.frames samples out whole q.channels (planned all.samples).few c below i within
 
-  pub alike : (second out : List ℕ) → length second ≡ length out → (c i : ℕ) → c < answered (cond (eqb (number (length out)) 0) (Block (report_of q)) (Refused (number (length out)))) → i < 128
+  pub alike : (second out : List ℕ) → length second ≡ length out → (c i : ℕ) → c < answered (after_checks (checked (length out)) (report_of q)) → i < 128
       → get_or (left second) (128 * c + i) 0 ≡ get_or (left out) (128 * c + i) 0
   alike second out same c i below within =
-      let on = taken (eqb (number (length out)) 0) (report_of q) (number (length out)) c below in
-      at second (ap (λ (n : ℕ). eqb (number n) 0) same ∙ on.0) c i on.1 within ∙ sym (at out on.0 c i on.1 within)
+      let on = taken (checked (length out)) (report_of q) c below in
+      at second (ap checked same ∙ on.0) c i on.1 within ∙ sym (at out on.0 c i on.1 within)

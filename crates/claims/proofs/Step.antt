@@ -15,8 +15,7 @@ use Rattle.buffer.specs.Limits.{duration}
 use Rattle.rounding.specs.Rounding.{whole}
 use Rattle.seconds.specs.Seconds.{block_seconds}
 use Rattle.aligned.specs.Aligned.{first_frame, ends_within, played, next_frame, aligned_sample, last_wrap, aligned_position}
-use Rattle.aligned.specs.declared.Wrap.{Wrap}
-use Rattle.aligned.specs.declared.Wrap.TheVariants.{Never, At}
+use Rattle.std.specs.Prelude.{Option, None, Some}
 use Rattle.claims.specs.LongRun.{exact_frames}
 use Rattle.claims.proofs.Tape.{never_wraps, plays_straight, place, plays_turning, Wraps, within, over, wraps}
 use Rattle.claims.proofs.Exact.{exact_le, exact_mod, exact_on, exact_over}
@@ -117,9 +116,9 @@ module _ (r : Float) (R : ℕ) (v : HasValue r false R (2 ^ 149)) (lo : 3000 * 2
       straight_on : exact_frames 128 true l k + 128 ≤ l → Place r R (add binary64 x (block_seconds 128 r)) (exact_frames 128 true l (suc k))
       straight_on m = subst (λ (y : ℕ). Place r R (add binary64 x (block_seconds 128 r)) y) (sym (exact_on 128 l L1 k (omega arith) m)) (on x (exact_frames 128 true l k) p h)
 
-      by_wrap : (w : Wrap) → Wraps l (exact_frames 128 true l k) 128 w → Place r R (aligned_position 128 x r (duration l r) w) (exact_frames 128 true l (suc k))
-      by_wrap Never (within e m) = straight_on m
-      by_wrap (At w) (over v' W e past) = moved_place k w x p W e past
+      by_wrap : (w : Option ℕ) → Wraps l (exact_frames 128 true l k) 128 w → Place r R (aligned_position 128 x r (duration l r) w) (exact_frames 128 true l (suc k))
+      by_wrap None (within e m) = straight_on m
+      by_wrap (Some w) (over v' W e past) = moved_place k w x p W e past
 
       go : (b : Bool) → ends_within 128 x r (duration l r) ≡ b → Place r R (aligned_position 128 x r (duration l r) (last_wrap b l (first_frame x r) 128)) (exact_frames 128 true l (suc k))
       go true e = by_wrap (last_wrap true l (first_frame x r) 128) (subst (λ (y : ℕ). Wraps l (exact_frames 128 true l k) 128 (last_wrap true l y 128)) (sym (first x (exact_frames 128 true l k) p h)) (wraps l (exact_frames 128 true l k) 128 h))

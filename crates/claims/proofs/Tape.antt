@@ -9,8 +9,7 @@ use native.Mathlib.Omega.{arith}
 use borrow.Author.Tests.{leb-true, leb-false, le-leb, lt-leb}
 use lib.Dec.{leb}
 use Rattle.aligned.specs.Aligned.{played, next_frame, last_wrap}
-use Rattle.aligned.specs.declared.Wrap.{Wrap}
-use Rattle.aligned.specs.declared.Wrap.TheVariants.{Never, At}
+use Rattle.std.specs.Prelude.{Option, None, Some}
 
 -- ---- a block that doesn't turn over goes straight on
 pub straight : (l a i : ℕ) → next_frame false l a i ≡ a + i
@@ -18,7 +17,7 @@ unfolding next_frame played
 straight l a zero = omega arith
 straight l a (suc i) = let e = straight l a i in omega arith
 
-pub never_wraps : (l a i : ℕ) → last_wrap false l a i ≡ Never
+pub never_wraps : (l a i : ℕ) → last_wrap false l a i ≡ None
 unfolding last_wrap
 never_wraps l a zero = refl
 never_wraps l a (suc i) = never_wraps l a i
@@ -55,9 +54,9 @@ pub plays_turning : (l a i : ℕ) → 0 < l → a ≤ l → played true l (next_
 plays_turning l a i some h = let p = place l a i some h in played_is l (next_frame true l a i) some p.0 ∙ p.1
 
 -- ---- where it turned over last
-pub data Wraps (l a n : ℕ) : Wrap → Type 0 where
-  within : next_frame true l a n ≡ a + n → a + n ≤ l → Wraps l a n Never
-  over : (w : ℕ) → w < n → next_frame true l a n ≡ n - w → l < a + n → Wraps l a n (At w)
+pub data Wraps (l a n : ℕ) : Option ℕ → Type 0 where
+  within : next_frame true l a n ≡ a + n → a + n ≤ l → Wraps l a n None
+  over : (w : ℕ) → w < n → next_frame true l a n ≡ n - w → l < a + n → Wraps l a n (Some w)
 
 at_most : (l a i : ℕ) → next_frame true l a i ≤ a + i
 unfolding next_frame played
@@ -73,11 +72,11 @@ unfolding last_wrap next_frame played
 wraps l a zero h = within (omega arith) (omega arith)
 wraps l a (suc i) h = go (leb l (next_frame true l a i)) refl (last_wrap true l a i) (wraps l a i h)
   where
-    go : (b : Bool) → leb l (next_frame true l a i) ≡ b → (w : Wrap) → Wraps l a i w → Wraps l a (suc i) (cond b (At i) w)
+    go : (b : Bool) → leb l (next_frame true l a i) ≡ b → (w : Option ℕ) → Wraps l a i w → Wraps l a (suc i) (cond b (Some i) w)
     go true e w before =
         over i (omega arith) (ap (λ (b : Bool). suc (cond b 0 (next_frame true l a i))) e ∙ omega arith)
         (let m = leb-true l (next_frame true l a i) e in let g = at_most l a i in omega arith)
-    go false e Never (within x y) =
+    go false e None (within x y) =
         let m = leb-false l (next_frame true l a i) e in
         within (ap (λ (b : Bool). suc (cond b 0 (next_frame true l a i))) e ∙ omega arith) (omega arith)
-    go false e (At w) (over v x y z) = over w (omega arith) (ap (λ (b : Bool). suc (cond b 0 (next_frame true l a i))) e ∙ omega arith) (omega arith)
+    go false e (Some w) (over v x y z) = over w (omega arith) (ap (λ (b : Bool). suc (cond b 0 (next_frame true l a i))) e ∙ omega arith) (omega arith)

@@ -1,23 +1,20 @@
 -- Previews among the calls: the others give what they give without them, and a preview shows what the block gives. Assumes nothing.
-use mathlib.Core.Path.{◌≡◌, refl, sym, ap, ◌∙◌}
+use mathlib.Core.Path.{◌≡◌, refl, ap, ◌∙◌}
 use mathlib.Core.Bool.{Bool, true, false, cond, false≢true}
 use mathlib.Core.List.{List, [], ◌∷◌}
 use Prim.Native.Nat.{ℕ}
-use lib.Dec.{eqb}
 use lib.IntN.{ℤ}
 use lib.ListN.{length}
 use lib.Ieee.{Float}
 use Rattle.detune.specs.Detune.{bad_cents, factor_of}
-use Rattle.player.specs.Answers.{block_answer}
-use Rattle.player.specs.Block.{plan, refusal, report_of, rendered, output}
+use Rattle.buffer.specs.Answers.{answer_of, stored, after_checks}
+use Rattle.player.specs.Block.{plan, checked, report_of, rendered, output}
 use Rattle.player.specs.declared.Player.{Player}
 use Rattle.player.specs.declared.BlockReport.{BlockReport}
-use Rattle.player.specs.declared.Rendered.{Rendered}
-use Rattle.player.specs.declared.Rendered.TheVariants as rendered
-use Rattle.cents.specs.Cents.{cents_refusal, rendered_cents, output_cents}
-use Rattle.preview.specs.Preview.{shown, previewed, previewed_cents, preview_answer}
-use Rattle.preview.specs.declared.Previewed.{Previewed}
-use Rattle.preview.specs.declared.Previewed.TheVariants.{Block, Refused}
+use Rattle.buffer.specs.declared.refusals.Refusal.{Refusal}
+use Rattle.std.specs.Prelude.{Result, Ok, Err}
+use Rattle.cents.specs.Cents.{checked_cents, rendered_cents, output_cents}
+use Rattle.preview.specs.Preview.{shown, previewed, previewed_cents}
 use Rattle.claims.specs.Calls.{Call, block}
 use Rattle.claims.proofs.Samples.{alike}
 use Rattle.claims.specs.Longer.{LongerCall, plain, in_cents, preview, preview_in_cents, Given, looked, Outcome, outcome, outcome_longer, is_left_out, as_call, replaced, is_preview, unlooked, outcomes_longer, others, left, seen, shown_by, SameBlock}
@@ -77,20 +74,17 @@ replaced_same_lem p [] = refl
 replaced_same_lem p (c ∷ cs) = replaced_step p c cs (is_preview c) refl (replaced_same_lem (outcome_longer p c).player cs)
 
 -- ---- what is shown
-seen_shown : (r : Rendered) → preview_answer (shown r) ≡ seen (block_answer r)
-unfolding shown
-seen_shown (rendered.Block r) = refl
-seen_shown (rendered.Refused number) = refl
+seen_shown : (r : Result BlockReport Refusal) → answer_of (shown r) ≡ seen (answer_of r)
+seen_shown (Ok r) = refl
+seen_shown (Err refused) = refl
 
 module _ (p : Player) (between : List LongerCall) (none : unlooked between ≡ []) (out samples : List ℕ) (time rate : Float) where
   pub foretold : (factor : Float) → outcome_longer p (preview out samples time rate factor) ≡ shown_by p (outcome (left p between) (as_call (preview out samples time rate factor)))
-  unfolding previewed
   foretold factor =
       rw (between_stays p between none)
       (ap (λ (a : Given). record { answer = a; player = p; output = output 128 p out samples time rate factor }) (ap looked (seen_shown (rendered 128 p (length out) (length samples) time rate factor))))
 
   pub foretold_in_cents_lem : (cents : ℤ) → outcome_longer p (preview_in_cents out samples time rate cents) ≡ shown_by p (outcome_longer (left p between) (in_cents out samples time rate cents))
-  unfolding previewed_cents
   foretold_in_cents_lem cents =
       rw (between_stays p between none)
       (ap (λ (a : Given). record { answer = a; player = p; output = output_cents 128 p out samples time rate cents }) (ap looked (seen_shown (rendered_cents 128 p (length out) (length samples) time rate cents))))
@@ -98,20 +92,20 @@ module _ (p : Player) (between : List LongerCall) (none : unlooked between ≡ [
 -- ---- into another output
 module _ (p : Player) (second out samples : List ℕ) (same : length second ≡ length out) (time rate : Float) where
   same_block : (factor : Float) → SameBlock (outcome_longer p (preview second samples time rate factor)) (outcome p (block out samples time rate factor))
-  unfolding previewed rendered refusal output
+  unfolding rendered checked output
   same_block factor = record {
     answer =
         ap looked (seen_shown (rendered 128 p (length second) (length samples) time rate factor))
-        ∙ ap (λ (n : ℕ). looked (seen (block_answer (rendered 128 p n (length samples) time rate factor)))) same;
+        ∙ ap (λ (n : ℕ). looked (seen (answer_of (rendered 128 p n (length samples) time rate factor)))) same;
     samples = alike p samples time rate factor false second out same;
   }
 
   same_in_cents : (cents : ℤ) → SameBlock (outcome_longer p (preview_in_cents second samples time rate cents)) (outcome_longer p (in_cents out samples time rate cents))
-  unfolding previewed_cents rendered_cents cents_refusal output_cents
+  unfolding rendered_cents checked_cents output_cents
   same_in_cents cents = record {
     answer =
         ap looked (seen_shown (rendered_cents 128 p (length second) (length samples) time rate cents))
-        ∙ ap (λ (n : ℕ). looked (seen (block_answer (rendered_cents 128 p n (length samples) time rate cents)))) same;
+        ∙ ap (λ (n : ℕ). looked (seen (answer_of (rendered_cents 128 p n (length samples) time rate cents)))) same;
     samples = alike p samples time rate (factor_of cents) (bad_cents cents) second out same;
   }
 
@@ -123,27 +117,18 @@ module _ (p : Player) (second out samples : List ℕ) (same : length second ≡ 
     any_output_in_cents_lem cents = rw (between_stays p between none) (same_in_cents cents)
 
 -- ---- a refused preview
--- the number tells: an answer that is refused comes with a number that is not 0
-abbrev is_shown : Previewed → Bool
-is_shown (Block k) = true
-is_shown (Refused number) = false
+-- an answer that is refused comes of checks that are
+unwritten_by : (checks : Result Unit Refusal) (report : BlockReport) (refused : Refusal) (samples out : List ℕ) → shown (after_checks checks report) ≡ Err refused
+    → stored (answer_of checks) samples out ≡ out
+unwritten_by (Ok tt) report refused samples out h = absurd cc
+unwritten_by (Err why) report refused samples out h = refl
 
-told_by : (b : Bool) (report : BlockReport) (why : ℕ) → is_shown (shown (cond b (rendered.Block report) (rendered.Refused why))) ≡ b
-unfolding shown
-told_by true report why = refl
-told_by false report why = refl
+module _ (p : Player) (out samples : List ℕ) (time rate : Float) (refused : Refusal) where
+  pub unwritten : (factor : Float) → previewed 128 p (length out) (length samples) time rate factor ≡ Err refused → output 128 p out samples time rate factor ≡ out
+  unfolding rendered output
+  unwritten factor e = unwritten_by (checked 128 p (length out) (length samples) time rate factor) (report_of (plan 128 p time rate factor)) refused _ out e
 
-module _ (p : Player) (out samples : List ℕ) (time rate : Float) (number : ℕ) where
-  pub unwritten : (factor : Float) → previewed 128 p (length out) (length samples) time rate factor ≡ Refused number → output 128 p out samples time rate factor ≡ out
-  unfolding previewed rendered output
-  unwritten factor e =
-      let no = refusal 128 p (length out) (length samples) time rate factor in
-      let down : eqb no 0 ≡ false = sym (told_by (eqb no 0) (report_of (plan 128 p time rate factor)) no) ∙ ap is_shown e in
-      rw down refl
-
-  pub unwritten_in_cents_lem : (cents : ℤ) → previewed_cents 128 p (length out) (length samples) time rate cents ≡ Refused number → output_cents 128 p out samples time rate cents ≡ out
-  unfolding previewed_cents rendered_cents output_cents
+  pub unwritten_in_cents_lem : (cents : ℤ) → previewed_cents 128 p (length out) (length samples) time rate cents ≡ Err refused → output_cents 128 p out samples time rate cents ≡ out
+  unfolding rendered_cents output_cents
   unwritten_in_cents_lem cents e =
-      let no = cents_refusal 128 p (length out) (length samples) time rate cents in
-      let down : eqb no 0 ≡ false = sym (told_by (eqb no 0) (report_of (plan 128 p time rate (factor_of cents))) no) ∙ ap is_shown e in
-      rw down refl
+      unwritten_by (checked_cents 128 p (length out) (length samples) time rate cents) (report_of (plan 128 p time rate (factor_of cents))) refused _ out e

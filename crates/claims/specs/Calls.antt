@@ -10,10 +10,10 @@ use Rattle.player.specs.declared.ControlMessage.{ControlMessage}
 use Rattle.player.specs.declared.ControlMessage.TheVariants.{Start, Stop, Loop, LoopStart, LoopEnd}
 use Rattle.buffer.specs.Answers as answers
 use Rattle.buffer.specs.Answers.{Answer}
-use Rattle.player.specs.Answers.{handled_answer, block_answer}
+use Rattle.buffer.specs.Answers.{answer_of}
 use Rattle.player.specs.declared.BlockReport.{BlockReport}
-use Rattle.player.specs.declared.Handled.{Handled}
-use Rattle.player.specs.declared.Rendered.{Rendered}
+use Rattle.buffer.specs.declared.refusals.Refusal.{Refusal}
+use Rattle.std.specs.Prelude.{Result}
 
 -- A call with all that is handed in: `buffer` has channels, frames, rate and samples; `block` has the output, the samples, time, rate and factor.
 pub data Call : Type 0 where
@@ -55,20 +55,20 @@ abbrev pub channels_or : Answer BlockReport → ℕ
 channels_or (answers.accepted report) = report.channels
 channels_or (answers.refusal number) = 0
 
-abbrev pub is_done : Handled → Bool
-is_done h = is_accepted (handled_answer h)
+abbrev pub is_done : Result Player Refusal → Bool
+is_done h = is_accepted (answer_of h)
 
-abbrev pub left : Handled → Player → Player
-left h p = value_or (handled_answer h) p
+abbrev pub left : Result Player Refusal → Player → Player
+left h p = value_or (answer_of h) p
 
-abbrev pub is_block : Rendered → Bool
-is_block r = is_accepted (block_answer r)
+abbrev pub is_block : Result BlockReport Refusal → Bool
+is_block r = is_accepted (answer_of r)
 
-abbrev pub moved : Rendered → Player → Player
-moved r p = player_or (block_answer r) p
+abbrev pub moved : Result BlockReport Refusal → Player → Player
+moved r p = player_or (answer_of r) p
 
-abbrev pub answered : Rendered → ℕ
-answered r = channels_or (block_answer r)
+abbrev pub answered : Result BlockReport Refusal → ℕ
+answered r = channels_or (answer_of r)
 
 unfoldable pub accepts : Player → Call → Bool
 accepts p (buffer channels frames rate samples) = is_done (buffered p channels frames rate (length samples))

@@ -3,7 +3,7 @@ use Rattle.std.specs.Prelude.{◌≡◌, true, false, List, [], ◌∷◌, ℕ, 
 use Rattle.std.specs.Float.{fin, binary32}
 use Rattle.std.specs.Float.Ieee.{fits}
 use Rattle.buffer.specs.Limits.{valid_rate}
-use Rattle.buffer.specs.Refusals.{LENGTH, CENTS}
+use Rattle.buffer.specs.declared.refusals.Refusal.TheVariants as refused
 use Rattle.seconds.specs.Seconds.{none, never, one}
 use Rattle.player.specs.Record.{fresh}
 use Rattle.player.specs.declared.ControlMessage.TheVariants.{Start, Stop, Loop}
@@ -11,7 +11,7 @@ use Rattle.claims.specs.Calls.{Call, buffer, message, block, all_typed, accepted
 use Rattle.claims.specs.LongRun.{Premises}
 use Rattle.claims.specs.Longer.{LongerCall, plain, in_cents, preview, preview_in_cents, all_typed_longer, replaced, unlooked}
 use Rattle.preview.specs.Preview.{previewed, previewed_cents}
-use Rattle.preview.specs.declared.Previewed.TheVariants.{Refused}
+use Rattle.std.specs.Prelude.{Err}
 
 -- 48,000 = 375 × 2 ^ 7, and three frames: 1.0, 2.0, 3.0
 abbrev pub rate : Float
@@ -97,8 +97,8 @@ pub record MetLonger (calls : List LongerCall) (left blocks : ℕ) : Type 0 wher
 pub record MetPreviews : Type 0 where
   pub between : unlooked between_calls ≡ []
   pub lengths : length {A = ℕ} (replicate 4096 9) ≡ length {A = ℕ} (replicate 4096 7)
-  pub short : previewed 128 (fresh rate) 128 3 none one one ≡ Refused LENGTH
-  pub far : previewed_cents 128 (fresh rate) 4096 3 none one (pos 12001) ≡ Refused CENTS
+  pub short : previewed 128 (fresh rate) 128 3 none one one ≡ Err refused.Length
+  pub far : previewed_cents 128 (fresh rate) 4096 3 none one (pos 12001) ≡ Err refused.Cents
 
 abbrev pub Instances : Type 0
 Instances = Met looped_calls 2 × Met plain_calls 2 × Met stopped_calls 3 × MetLonger longer_calls 2 2 × MetLonger previewed_calls 7 2 × MetPreviews

@@ -11,13 +11,14 @@ use Rattle.detune.specs.Detune.{factor_of}
 use Rattle.player.specs.Record.{fresh}
 use Rattle.player.specs.Messages.{handled, buffered}
 use Rattle.player.specs.Block.{rendered}
-use Rattle.player.specs.Answers.{handled_answer, block_answer}
+use Rattle.buffer.specs.Answers.{answer_of}
 use Rattle.player.specs.declared.Player.{Player}
 use Rattle.player.specs.declared.BlockReport.{BlockReport}
 use Rattle.cents.specs.Cents.{rendered_cents, output_cents}
-use Rattle.preview.specs.Preview.{previewed, previewed_cents, preview_answer}
+use Rattle.preview.specs.Preview.{previewed, previewed_cents}
 use Rattle.preview.specs.declared.Coming.{Coming}
-use Rattle.preview.specs.declared.Previewed.TheVariants.{Refused}
+use Rattle.std.specs.Prelude.{Err}
+use Rattle.buffer.specs.declared.refusals.Refusal.{Refusal}
 use Rattle.claims.specs.Calls.{Call, buffer, message, block, typed, channels_or, is_block, moved, next, accepted, output_by}
 use Rattle.claims.specs.LongRun.{Premises, Holds}
 
@@ -52,9 +53,9 @@ pub record Outcome : Type 0 where
   pub output : List ℕ
 
 abbrev pub answer_by : Player → Call → Given
-answer_by p (buffer channels frames rate samples) = told (handled_answer (buffered p channels frames rate (length samples)))
-answer_by p (message m) = told (handled_answer (handled p m))
-answer_by p (block out samples time rate factor) = played (block_answer (rendered 128 p (length out) (length samples) time rate factor))
+answer_by p (buffer channels frames rate samples) = told (answer_of (buffered p channels frames rate (length samples)))
+answer_by p (message m) = told (answer_of (handled p m))
+answer_by p (block out samples time rate factor) = played (answer_of (rendered 128 p (length out) (length samples) time rate factor))
 
 abbrev pub outcome : Player → Call → Outcome
 outcome p c = record { answer = answer_by p c; player = next p c; output = output_by p c }
@@ -66,14 +67,14 @@ looks_on p shows out = record { answer = looked shows; player = p; output = out 
 abbrev pub outcome_longer : Player → LongerCall → Outcome
 outcome_longer p (plain c) = outcome p c
 outcome_longer p (in_cents out samples time rate cents) = record {
-  answer = played (block_answer (rendered_cents 128 p (length out) (length samples) time rate cents));
+  answer = played (answer_of (rendered_cents 128 p (length out) (length samples) time rate cents));
   player = moved (rendered_cents 128 p (length out) (length samples) time rate cents) p;
   output = output_cents 128 p out samples time rate cents;
 }
 outcome_longer p (preview out samples time rate factor) =
-    looks_on p (preview_answer (previewed 128 p (length out) (length samples) time rate factor)) (output_by p (block out samples time rate factor))
+    looks_on p (answer_of (previewed 128 p (length out) (length samples) time rate factor)) (output_by p (block out samples time rate factor))
 outcome_longer p (preview_in_cents out samples time rate cents) =
-    looks_on p (preview_answer (previewed_cents 128 p (length out) (length samples) time rate cents)) (output_cents 128 p out samples time rate cents)
+    looks_on p (answer_of (previewed_cents 128 p (length out) (length samples) time rate cents)) (output_cents 128 p out samples time rate cents)
 
 -- what the calls of a list give, one after another, from the player p on
 unfoldable pub outcomes : Player → List Call → List Outcome
@@ -192,11 +193,11 @@ pub record Previews : Type 0 where
       → (time rate : Float) (cents : ℤ)
       → SameBlock (outcome_longer p (preview_in_cents second samples time rate cents)) (outcome_longer (left p between) (in_cents out samples time rate cents))
   -- a refused preview leaves the second output as it was
-  pub unwritten : (p : Player) (second samples : List ℕ) (time rate factor : Float) (number : ℕ)
-      → previewed 128 p (length second) (length samples) time rate factor ≡ Refused number
+  pub unwritten : (p : Player) (second samples : List ℕ) (time rate factor : Float) (refused : Refusal)
+      → previewed 128 p (length second) (length samples) time rate factor ≡ Err refused
       → (outcome_longer p (preview second samples time rate factor)).output ≡ second
-  pub unwritten_in_cents : (p : Player) (second samples : List ℕ) (time rate : Float) (cents : ℤ) (number : ℕ)
-      → previewed_cents 128 p (length second) (length samples) time rate cents ≡ Refused number
+  pub unwritten_in_cents : (p : Player) (second samples : List ℕ) (time rate : Float) (cents : ℤ) (refused : Refusal)
+      → previewed_cents 128 p (length second) (length samples) time rate cents ≡ Err refused
       → (outcome_longer p (preview_in_cents second samples time rate cents)).output ≡ second
   -- the list of demand 3 that a longer list is brought to (`replaced`, whose claims are those of `InCents`) is the one of the list without its previews
   pub replaced_same : (p : Player) (calls : List LongerCall) → replaced p calls ≡ replaced p (unlooked calls)

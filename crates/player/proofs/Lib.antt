@@ -2,3 +2,4 @@
 pub mod Written
 mod Sampled
 mod Plans
+mod Limits

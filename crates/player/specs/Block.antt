@@ -1,14 +1,15 @@
 -- The block call (document 01, 'Output block', 'Aligned block', 'Sub-sample block', and the table's rows for a block). Definitions only.
 -- What a block does to the player doesn't depend on the frames: `plan` gives it, with how a channel's frames become its samples.
-use Rattle.std.specs.Prelude.{Bool, true, false, not, ◌&&◌, ◌||◌, cond, List, ℕ, zero, suc, ◌*◌, eqb, pos, negsuc, length, Float}
+use Rattle.std.specs.Prelude.{Bool, true, false, not, ◌&&◌, ◌||◌, cond, List, ℕ, zero, suc, ◌*◌, eqb, pos, negsuc, length, Float, Result, Ok, Err}
 use Rattle.std.specs.Float.{fin, binary64}
 use Rattle.std.specs.Float.Ieee.{add, mul, div, lt, le, eq, ne}
 use Rattle.std.specs.Float.Ieee.Scale.{finite}
 use Rattle.lists.specs.Table.{table}
 use Rattle.lists.specs.Parts.{put}
+use Rattle.buffer.specs.Answers.{answer_of, stored, after_checks}
 use Rattle.buffer.specs.Channels.{channel}
 use Rattle.buffer.specs.Limits.{valid_shape, duration}
-use Rattle.buffer.specs.Refusals.{SHAPE, LENGTH, TIME, SPEED, CENTS}
+use Rattle.buffer.specs.declared.refusals.Refusal.TheVariants as refused
 use Rattle.seconds.specs.Seconds.{context, in_clip, never, none, one, dt, block_seconds, block_end}
 use Rattle.player.specs.Record.{render_of, moved}
 use Rattle.player.specs.Reports.{report_from}
@@ -20,8 +21,7 @@ use Rattle.player.specs.declared.RenderState.{RenderState}
 use Rattle.sub_sample.specs.declared.Settings.{Settings}
 use Rattle.sub_sample.specs.declared.Playhead.{Playhead}
 use Rattle.player.specs.declared.BlockReport.{BlockReport}
-use Rattle.player.specs.declared.Rendered.{Rendered}
-use Rattle.player.specs.declared.Rendered.TheVariants.{Block, Refused}
+use Rattle.buffer.specs.declared.refusals.Refusal.{Refusal}
 
 -- the player after a block, keep-alive, the answered channels, and sample i of a channel by that channel's frames
 pub record Plan : Type 0 where
@@ -174,28 +174,26 @@ bad_rate rate factor = not (finite rate) || not (le (fin false 1 (negsuc 63)) fa
 unfoldable pub bad_samples : Player → ℕ → Bool
 bad_samples p length = cond p.has_buffer (not (valid_shape p.shape.channels p.shape.frames length)) (not (eqb length 0))
 
--- The checks of a block in their order: the refusal's number, and 0 for none. Those of the cents stand after 13 and before 14 (document 02, 2.1); the
--- block call has none to check.
-abbrev pub checks : ℕ → Player → ℕ → ℕ → Float → Bool → Float → Float → ℕ
+-- The checks of a block in their order. Those of the cents stand after 13 and before 14 (document 02, 2.1); the block call has none to check.
+abbrev pub checks : ℕ → Player → ℕ → ℕ → Float → Bool → Float → Float → Result Unit Refusal
 checks n p outLength samplesLength time bad_cents rate factor =
-    cond (not (eqb outLength (32 * n))) LENGTH
-    (cond (bad_block_time p time) TIME
-    (cond bad_cents CENTS
-    (cond (bad_rate rate factor) SPEED
-    (cond (bad_samples p samplesLength) SHAPE
-    0))))
+    cond (not (eqb outLength (32 * n))) (Err refused.Length)
+    (cond (bad_block_time p time) (Err refused.Time)
+    (cond bad_cents (Err refused.Cents)
+    (cond (bad_rate rate factor) (Err refused.Speed)
+    (cond (bad_samples p samplesLength) (Err refused.Shape)
+    (Ok tt)))))
 
-unfoldable pub refusal : ℕ → Player → ℕ → ℕ → Float → Float → Float → ℕ
-refusal n p outLength samplesLength time rate factor = checks n p outLength samplesLength time false rate factor
+unfoldable pub checked : ℕ → Player → ℕ → ℕ → Float → Float → Float → Result Unit Refusal
+checked n p outLength samplesLength time rate factor = checks n p outLength samplesLength time false rate factor
 
 -- ---- the answer, and what the output then holds
 abbrev pub report_of : Plan → BlockReport
 report_of q = report_from q.player q.keep_alive q.channels
 
-unfoldable pub rendered : ℕ → Player → ℕ → ℕ → Float → Float → Float → Rendered
+unfoldable pub rendered : ℕ → Player → ℕ → ℕ → Float → Float → Float → Result BlockReport Refusal
 rendered n p outLength samplesLength time rate factor =
-    let no = refusal n p outLength samplesLength time rate factor in
-    cond (eqb no 0) (Block (report_of (plan n p time rate factor))) (Refused no)
+    after_checks (checked n p outLength samplesLength time rate factor) (report_of (plan n p time rate factor))
 
 -- the output once its first `count` channels are written, each in its own part; the others are not touched
 unfoldable pub written : ℕ → (List ℕ → ℕ → ℕ) → ℕ → List ℕ → List ℕ → ℕ → List ℕ
@@ -205,6 +203,4 @@ written n sample frames samples out (suc c) = put (n * c) n (table n (sample (ch
 unfoldable pub output : ℕ → Player → List ℕ → List ℕ → Float → Float → Float → List ℕ
 output n p out samples time rate factor =
     let q = plan n p time rate factor in
-    cond (eqb (refusal n p (length out) (length samples) time rate factor) 0)
-    (written n q.sample p.shape.frames samples out q.channels)
-    out
+    stored (answer_of (checked n p (length out) (length samples) time rate factor)) (written n q.sample p.shape.frames samples out q.channels) out

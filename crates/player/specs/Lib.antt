@@ -3,4 +3,3 @@ pub mod Record
 pub mod Messages
 pub mod Reports
 pub mod Block
-pub mod Answers

@@ -1,22 +1,21 @@
 -- The control messages and the buffer call (document 01, 'Messages', and the table's rows 'message values' to 'buffer'). Definitions only.
 -- The checks stand in the order of the refusals.
-use Rattle.std.specs.Prelude.{Bool, true, not, ◌||◌, cond, ℕ, eqb, Float}
+use Rattle.std.specs.Prelude.{Bool, true, not, ◌||◌, cond, ℕ, eqb, Float, Result, Ok, Err}
 use Rattle.std.specs.Float.Ieee.{lt, le}
 use Rattle.std.specs.Float.Ieee.Scale.{finite}
 use Rattle.seconds.specs.Seconds.{context, in_clip, none}
 use Rattle.player.specs.Record.{shape_of, loop_of, fresh, told, given}
 use Rattle.buffer.specs.Limits.{valid_rate, valid_shape, duration}
-use Rattle.buffer.specs.Refusals.{SHAPE, RATE, VALUE, SECOND, EARLY, EMPTY}
+use Rattle.buffer.specs.declared.refusals.Refusal.TheVariants as refused
 use Rattle.player.specs.declared.LoopState.{LoopState}
 use Rattle.player.specs.declared.Player.{Player}
 use Rattle.player.specs.declared.ControlMessage.{ControlMessage}
 use Rattle.player.specs.declared.ControlMessage.TheVariants.{Start, Stop, Loop, LoopStart, LoopEnd}
-use Rattle.player.specs.declared.Handled.{Handled}
-use Rattle.player.specs.declared.Handled.TheVariants.{Done, Refused}
+use Rattle.buffer.specs.declared.refusals.Refusal.{Refusal}
 
 -- a player made for an output rate
-unfoldable pub made : Float → Handled
-made rate = cond (valid_rate rate) (Done (fresh rate)) (Refused RATE)
+unfoldable pub made : Float → Result Player Refusal
+made rate = cond (valid_rate rate) (Ok (fresh rate)) (Err refused.Rate)
 
 -- ---- loop points, once a buffer stands
 
@@ -43,32 +42,32 @@ clamped p =
 unfoldable pub bad_time : Float → Bool
 bad_time x = not (finite x) || lt x none
 
-unfoldable pub on_start : Player → Float → Float → Float → Handled
+unfoldable pub on_start : Player → Float → Float → Float → Result Player Refusal
 on_start p when offset duration =
-    cond (bad_time when || bad_time offset || bad_time duration) (Refused VALUE)
-    (cond p.has_start (Refused SECOND)
-    (Done (clamped (told p true (context when) p.stop_time (in_clip offset) (in_clip duration) p.loop_state))))
+    cond (bad_time when || bad_time offset || bad_time duration) (Err refused.Value)
+    (cond p.has_start (Err refused.Second)
+    (Ok (clamped (told p true (context when) p.stop_time (in_clip offset) (in_clip duration) p.loop_state))))
 
-unfoldable pub on_stop : Player → Float → Handled
+unfoldable pub on_stop : Player → Float → Result Player Refusal
 on_stop p when =
-    cond (bad_time when) (Refused VALUE)
-    (cond (not p.has_start) (Refused EARLY)
-    (Done (clamped (told p p.has_start p.start_time (context when) p.offset p.duration p.loop_state))))
+    cond (bad_time when) (Err refused.Value)
+    (cond (not p.has_start) (Err refused.Early)
+    (Ok (clamped (told p p.has_start p.start_time (context when) p.offset p.duration p.loop_state))))
 
-unfoldable pub on_loop : Player → Bool → Handled
-on_loop p on = Done (clamped (looped p (loop_of on p.loop_state.start.0 p.loop_state.end.0)))
+unfoldable pub on_loop : Player → Bool → Result Player Refusal
+on_loop p on = Ok (clamped (looped p (loop_of on p.loop_state.start.0 p.loop_state.end.0)))
 
-unfoldable pub on_loop_start : Player → Float → Handled
+unfoldable pub on_loop_start : Player → Float → Result Player Refusal
 on_loop_start p at =
-    cond (not (finite at)) (Refused VALUE)
-    (Done (clamped (looped p (loop_of p.loop_state.is_looping at p.loop_state.end.0))))
+    cond (not (finite at)) (Err refused.Value)
+    (Ok (clamped (looped p (loop_of p.loop_state.is_looping at p.loop_state.end.0))))
 
-unfoldable pub on_loop_end : Player → Float → Handled
+unfoldable pub on_loop_end : Player → Float → Result Player Refusal
 on_loop_end p at =
-    cond (not (finite at)) (Refused VALUE)
-    (Done (clamped (looped p (loop_of p.loop_state.is_looping p.loop_state.start.0 at))))
+    cond (not (finite at)) (Err refused.Value)
+    (Ok (clamped (looped p (loop_of p.loop_state.is_looping p.loop_state.start.0 at))))
 
-unfoldable pub handled : Player → ControlMessage → Handled
+unfoldable pub handled : Player → ControlMessage → Result Player Refusal
 handled p (Start when offset duration) = on_start p when offset duration
 handled p (Stop when) = on_stop p when
 handled p (Loop on) = on_loop p on
@@ -76,10 +75,10 @@ handled p (LoopStart at) = on_loop_start p at
 handled p (LoopEnd at) = on_loop_end p at
 
 -- ---- the buffer call: `length` is that of the lent samples
-unfoldable pub buffered : Player → ℕ → ℕ → Float → ℕ → Handled
+unfoldable pub buffered : Player → ℕ → ℕ → Float → ℕ → Result Player Refusal
 buffered p channels frames rate length =
-    cond (not (valid_shape channels frames length)) (Refused SHAPE)
-    (cond (not (valid_rate rate)) (Refused RATE)
-    (cond p.has_buffer (Refused SECOND)
-    (cond (eqb frames 0) (Refused EMPTY)
-    (Done (clamped (given p (shape_of channels frames rate)))))))
+    cond (not (valid_shape channels frames length)) (Err refused.Shape)
+    (cond (not (valid_rate rate)) (Err refused.Rate)
+    (cond p.has_buffer (Err refused.Second)
+    (cond (eqb frames 0) (Err refused.Empty)
+    (Ok (clamped (given p (shape_of channels frames rate)))))))

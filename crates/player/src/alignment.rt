@@ -14,8 +14,7 @@ impl Player {
     pub(crate) fn clip_seconds(self) -> f64
         ensures { result ≡ clip_seconds self }
     {
-        let shape = self.shape;
-        buffer::duration(shape)
+        buffer::duration(self.shape)
     }
 
     // The clip's rate by the output's.
@@ -26,49 +25,36 @@ impl Player {
     }
 
     // A start in the past moves to the block time, unless it has begun.
+    #[tactic(auto, unfolding(crate::specs::Block::start_at))]
     pub(crate) fn start_at(self, time: f64) -> f64
         ensures { result ≡ start_at self time }
     {
-        if self.render_state.started {
-            return self.start_time.0;
+        if !self.render_state.started && self.start_time.0 < time {
+            time
+        } else {
+            self.start_time.0
         }
-        if self.start_time.0 < time {
-            return time;
-        }
-        self.start_time.0
     }
 
     // Aligned before, or from this block on.
     fn can_align(self, time: f64) -> bool
         ensures { result ≡ (self.render_state.is_aligned || eq (start_at self time) time && eq self.offset.0 none) }
     {
-        if self.render_state.is_aligned {
-            return true;
-        }
-        if self.start_at(time) == time {
-            return self.offset.0 == 0.0;
-        }
-        false
+        self.render_state.is_aligned || self.start_at(time) == time && self.offset.0 == 0.0
     }
 
     // Another rate than the clip's own.
     fn is_resampled(self, computed: f64) -> bool
         ensures { result ≡ (ne (sampling_ratio self) one || ne computed one) }
     {
-        if self.sampling_ratio() != 1.0 {
-            return true;
-        }
-        computed != 1.0
+        self.sampling_ratio() != 1.0 || computed != 1.0
     }
 
     // Loop points other than the clip's start and end.
     fn has_moved_loop(self) -> bool
         ensures { result ≡ (ne self.loop_state.start.0 none || ne self.loop_state.end.0 (clip_seconds self)) }
     {
-        if self.loop_state.start.0 != 0.0 {
-            return true;
-        }
-        self.loop_state.end.0 != self.clip_seconds()
+        self.loop_state.start.0 != 0.0 || self.loop_state.end.0 != self.clip_seconds()
     }
 
     // A duration or a stop inside the block.
@@ -76,76 +62,49 @@ impl Player {
         ensures { result ≡ (lt self.duration.0 (add binary64 self.render_state.buffer_time.0 (block_seconds 128 self.sample_rate))
             || lt self.stop_time.0 (block_end 128 time self.sample_rate)) }
     {
-        if self.render_state.buffer_time.0 + block_seconds(self.sample_rate) > self.duration.0 {
-            return true;
-        }
-        block_end(time, self.sample_rate) > self.stop_time.0
+        self.render_state.buffer_time.0 + block_seconds(self.sample_rate) > self.duration.0
+            || block_end(time, self.sample_rate) > self.stop_time.0
     }
 
     // Whether the block is aligned.
+    #[tactic(auto, unfolding(crate::specs::Block::is_aligned))]
     pub(crate) fn is_aligned(self, time: f64, computed: f64) -> bool
         ensures { result ≡ is_aligned 128 self time computed }
     {
-        if !self.can_align(time) {
-            return false;
-        }
-        if self.is_resampled(computed) {
-            return false;
-        }
-        if self.has_moved_loop() {
-            return false;
-        }
-        !self.stops_within(time)
-    }
-
-    // At or past the clip's end, forwards.
-    fn ends_forwards(self, computed: f64, position: f64) -> bool
-        ensures { result ≡ (lt none computed && le (clip_seconds self) position) }
-    {
-        if computed > 0.0 {
-            return position >= self.clip_seconds();
-        }
-        false
+        self.can_align(time)
+            && !self.is_resampled(computed)
+            && !self.has_moved_loop()
+            && !self.stops_within(time)
     }
 
     // At or past the clip's end forwards, or below its start backwards.
     fn runs_out(self, computed: f64, position: f64) -> bool
         ensures { result ≡ (lt none computed && le (clip_seconds self) position || lt computed none && lt position none) }
     {
-        if self.ends_forwards(computed, position) {
-            return true;
-        }
-        computed < 0.0 && position < 0.0
+        computed > 0.0 && position >= self.clip_seconds() || computed < 0.0 && position < 0.0
     }
 
     // Whether a block that leaves the player at this position and elapsed time ends it.
+    #[tactic(auto, unfolding(crate::specs::Block::has_ended))]
     pub(crate) fn has_ended(self, time: f64, computed: f64, position: f64, elapsed: f64) -> bool
         ensures { result ≡ has_ended 128 self time computed position elapsed }
     {
-        if block_end(time, self.sample_rate) >= self.stop_time.0 {
-            return true;
-        }
-        if elapsed >= self.duration.0 {
-            return true;
-        }
-        if self.loop_state.is_looping {
-            return false;
-        }
-        self.runs_out(computed, position)
+        block_end(time, self.sample_rate) >= self.stop_time.0
+            || elapsed >= self.duration.0
+            || !self.loop_state.is_looping && self.runs_out(computed, position)
     }
 
     // Whether an aligned block starts the clip again.
+    #[tactic(auto, unfolding(crate::specs::Block::turns_over))]
     pub(crate) fn turns_over(self) -> bool
         ensures { result ≡ turns_over 128 self }
     {
-        if self.loop_state.is_looping {
-            return ends_within(
+        self.loop_state.is_looping
+            && ends_within(
                 self.render_state.buffer_time.0,
                 self.sample_rate,
                 self.clip_seconds(),
-            );
-        }
-        false
+            )
     }
 
     // The frame with which an aligned block begins.

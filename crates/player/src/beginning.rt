@@ -3,60 +3,53 @@ ghost use Rattle.std.specs.Prelude.{◌≡◌, ◌&&◌, cond};
 ghost use Rattle.seconds.specs.Seconds.{none};
 ghost use Rattle.player.specs.Block.{clip_seconds, own_loop, settings, first_head};
 
-use super::Player;
+use super::{LoopState, Player, RenderState};
 use seconds::{BufferSeconds, ContextSeconds, sample_seconds, widened};
 use sub_sample::{Playhead, Settings};
 
 impl Player {
     // Whether the loop points are in order.
+    #[tactic(auto, unfolding(crate::specs::Block::own_loop))]
     fn own_loop(self) -> bool
         ensures { result ≡ own_loop self }
     {
-        if self.loop_state.start.0 >= 0.0 {
-            if self.loop_state.end.0 > 0.0 {
-                return self.loop_state.start.0 < self.loop_state.end.0;
-            }
-            return false;
-        }
-        false
+        let LoopState { start, end, .. } = self.loop_state;
+        start.0 >= 0.0 && end.0 > 0.0 && start.0 < end.0
     }
 
     // The loop points that are played: the whole clip where they are not in order.
     fn actual_loop_start(self) -> f64
         ensures { result ≡ cond (self.loop_state.is_looping && own_loop self) self.loop_state.start.0 none }
     {
-        if self.loop_state.is_looping {
-            if self.own_loop() {
-                return self.loop_state.start.0;
-            }
-            return 0.0;
+        if self.loop_state.is_looping && self.own_loop() {
+            self.loop_state.start.0
+        } else {
+            0.0
         }
-        0.0
     }
 
     fn actual_loop_end(self) -> f64
         ensures { result ≡ cond self.loop_state.is_looping (cond (own_loop self) self.loop_state.end.0 (clip_seconds self)) none }
     {
-        if self.loop_state.is_looping {
-            if self.own_loop() {
-                return self.loop_state.end.0;
-            }
-            return self.clip_seconds();
+        if !self.loop_state.is_looping {
+            0.0
+        } else if self.own_loop() {
+            self.loop_state.end.0
+        } else {
+            self.clip_seconds()
         }
-        0.0
     }
 
     // What stays the same over the block's samples.
+    #[tactic(auto, unfolding(crate::specs::Block::settings))]
     pub(crate) fn settings(self, time: f64, rate: f32, computed: f64) -> Settings
         ensures { result ≡ settings self time rate computed }
     {
-        let stop_time = self.stop_time;
-        let duration = self.duration;
         Settings {
             block_time: ContextSeconds(time),
             dt: sample_seconds(self.sample_rate),
-            stop_time,
-            duration,
+            stop_time: self.stop_time,
+            duration: self.duration,
             playback_rate: widened(rate),
             computed_playback_rate: computed,
             is_looping: self.loop_state.is_looping,
@@ -77,18 +70,22 @@ impl Player {
     }
 
     // The playhead before the first sample.
+    #[tactic(auto, unfolding(crate::specs::Block::first_head))]
     pub(crate) fn first_head(self, time: f64) -> Playhead
         ensures { result ≡ first_head self time }
     {
-        let offset = self.offset;
-        let buffer_time = self.render_state.buffer_time;
-        let buffer_time_elapsed = self.render_state.buffer_time_elapsed;
-        Playhead {
-            start_time: ContextSeconds(self.start_at(time)),
-            offset,
+        let RenderState {
             buffer_time,
             buffer_time_elapsed,
-            started: self.render_state.started,
+            started,
+            ..
+        } = self.render_state;
+        Playhead {
+            start_time: ContextSeconds(self.start_at(time)),
+            offset: self.offset,
+            buffer_time,
+            buffer_time_elapsed,
+            started,
             entered_loop: self.is_in_loop(),
         }
     }

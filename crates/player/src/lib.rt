@@ -32,6 +32,8 @@ pub struct RenderState {
     pub ended: bool,
 }
 
+// C sees this record, so a start, a buffer and a block's time that may be missing are each a flag with
+// its value beside it, and no `Option`.
 #[repr(C)]
 #[derive(Clone, Copy)]
 pub struct Player {
@@ -58,13 +60,6 @@ pub enum ControlMessage {
     LoopEnd(f64),
 }
 
-// The player that a call leaves, or the number of its refusal.
-#[derive(Clone, Copy)]
-pub enum Handled {
-    Done(Player),
-    Refused(u32),
-}
-
 // What a block answers.
 #[derive(Clone, Copy)]
 pub struct BlockReport {
@@ -73,10 +68,4 @@ pub struct BlockReport {
     pub ended: bool,
     pub channels: usize,
     pub position: BufferSeconds,
-}
-
-#[derive(Clone, Copy)]
-pub enum Rendered {
-    Block(BlockReport),
-    Refused(u32),
 }

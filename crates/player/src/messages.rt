@@ -4,12 +4,13 @@ ghost use Rattle.player.specs.Record.{fresh};
 ghost use Rattle.player.specs.Messages.{made, buffered, handled, bad_time, clamped_start, clamped_end, clamped};
 ghost use Rattle.player.specs.Messages.{on_start, on_stop, on_loop, on_loop_start, on_loop_end};
 
-use super::{ControlMessage, Handled, LoopState, Player, RenderState};
-use buffer::{Shape, refusals};
+use super::{ControlMessage, LoopState, Player, RenderState};
+use buffer::{Refusal, Shape, check_rate, check_shape};
 use rounding::is_finite;
 use seconds::{BufferSeconds, ContextSeconds, NEVER};
 
 // A value that no start and no stop may carry.
+#[tactic(auto, unfolding(crate::specs::Messages::bad_time))]
 fn is_bad_time(x: f64) -> bool
     ensures { result ≡ bad_time x }
 {
@@ -17,33 +18,34 @@ fn is_bad_time(x: f64) -> bool
 }
 
 // Loop start within the clip.
+#[tactic(auto, unfolding(crate::specs::Messages::clamped_start))]
 fn clamped_start(at: f64, duration: f64) -> f64
     ensures { result ≡ clamped_start at duration }
 {
     if at < 0.0 {
-        return 0.0;
+        0.0
+    } else if at > duration {
+        duration
+    } else {
+        at
     }
-    if at > duration {
-        return duration;
-    }
-    at
 }
 
 // Loop end within the clip.
+#[tactic(auto, unfolding(crate::specs::Messages::clamped_end))]
 fn clamped_end(at: f64, duration: f64) -> f64
     ensures { result ≡ clamped_end at duration }
 {
-    if at <= 0.0 {
-        return duration;
+    if at <= 0.0 || at > duration {
+        duration
+    } else {
+        at
     }
-    if at > duration {
-        return duration;
-    }
-    at
 }
 
 impl Player {
     // A player that has received nothing yet.
+    #[tactic(auto, unfolding(crate::specs::Record::fresh))]
     fn fresh(sample_rate: f32) -> Self
         ensures { result ≡ fresh sample_rate }
     {
@@ -79,93 +81,90 @@ impl Player {
     }
 
     // A fresh player for an output rate.
-    pub fn new(sample_rate: f32) -> Handled
+    #[tactic(auto, unfolding(crate::specs::Messages::made))]
+    pub fn new(sample_rate: f32) -> Result<Player, Refusal>
         ensures { result ≡ made sample_rate }
     {
-        if buffer::is_valid_sample_rate(sample_rate) {
-            return Handled::Done(Player::fresh(sample_rate));
-        }
-        Handled::Refused(refusals::RATE)
+        check_rate(sample_rate)?;
+        Ok(Player::fresh(sample_rate))
     }
 
     // The loop points brought into the clip, if there is one.
+    #[tactic(auto, unfolding(crate::specs::Messages::clamped))]
     fn clamp_loop_boundaries(mut self) -> Self
         ensures { result ≡ clamped self }
     {
         if self.has_buffer {
-            let shape = self.shape;
-            let duration = buffer::duration(shape);
-            let start = clamped_start(self.loop_state.start.0, duration);
-            let end = clamped_end(self.loop_state.end.0, duration);
-            self.loop_state.start.0 = start;
-            self.loop_state.end.0 = end;
+            let duration = buffer::duration(self.shape);
+            self.loop_state.start.0 = clamped_start(self.loop_state.start.0, duration);
+            self.loop_state.end.0 = clamped_end(self.loop_state.end.0, duration);
         }
         self
     }
 
-    fn on_start(mut self, when: f64, offset: f64, duration: f64) -> Handled
+    #[tactic(auto, unfolding(crate::specs::Messages::on_start))]
+    fn on_start(mut self, when: f64, offset: f64, duration: f64) -> Result<Player, Refusal>
         ensures { result ≡ on_start self when offset duration }
     {
-        if is_bad_time(when) {
-            return Handled::Refused(refusals::VALUE);
-        }
-        if is_bad_time(offset) {
-            return Handled::Refused(refusals::VALUE);
-        }
-        if is_bad_time(duration) {
-            return Handled::Refused(refusals::VALUE);
+        if is_bad_time(when) || is_bad_time(offset) || is_bad_time(duration) {
+            return Err(Refusal::Value);
         }
         if self.has_start {
-            return Handled::Refused(refusals::SECOND);
+            return Err(Refusal::Second);
         }
         self.has_start = true;
         self.start_time.0 = when;
         self.offset.0 = offset;
         self.duration.0 = duration;
-        Handled::Done(self.clamp_loop_boundaries())
+        Ok(self.clamp_loop_boundaries())
     }
 
-    fn on_stop(mut self, when: f64) -> Handled
+    #[tactic(auto, unfolding(crate::specs::Messages::on_stop))]
+    fn on_stop(mut self, when: f64) -> Result<Player, Refusal>
         ensures { result ≡ on_stop self when }
     {
         if is_bad_time(when) {
-            return Handled::Refused(refusals::VALUE);
+            return Err(Refusal::Value);
         }
         if !self.has_start {
-            return Handled::Refused(refusals::EARLY);
+            return Err(Refusal::Early);
         }
         self.stop_time.0 = when;
-        Handled::Done(self.clamp_loop_boundaries())
+        Ok(self.clamp_loop_boundaries())
     }
 
-    fn on_loop(mut self, on: bool) -> Handled
+    #[tactic(auto, unfolding(crate::specs::Messages::on_loop))]
+    fn on_loop(mut self, on: bool) -> Result<Player, Refusal>
         ensures { result ≡ on_loop self on }
     {
         self.loop_state.is_looping = on;
-        Handled::Done(self.clamp_loop_boundaries())
+        Ok(self.clamp_loop_boundaries())
     }
 
-    fn on_loop_start(mut self, at: f64) -> Handled
+    #[tactic(auto, unfolding(crate::specs::Messages::on_loop_start))]
+    fn on_loop_start(mut self, at: f64) -> Result<Player, Refusal>
         ensures { result ≡ on_loop_start self at }
     {
         if !is_finite(at) {
-            return Handled::Refused(refusals::VALUE);
+            return Err(Refusal::Value);
         }
         self.loop_state.start.0 = at;
-        Handled::Done(self.clamp_loop_boundaries())
+        Ok(self.clamp_loop_boundaries())
     }
 
-    fn on_loop_end(mut self, at: f64) -> Handled
+    #[tactic(auto, unfolding(crate::specs::Messages::on_loop_end))]
+    fn on_loop_end(mut self, at: f64) -> Result<Player, Refusal>
         ensures { result ≡ on_loop_end self at }
     {
         if !is_finite(at) {
-            return Handled::Refused(refusals::VALUE);
+            return Err(Refusal::Value);
         }
         self.loop_state.end.0 = at;
-        Handled::Done(self.clamp_loop_boundaries())
+        Ok(self.clamp_loop_boundaries())
     }
 
-    pub fn handle_control_message(self, m: ControlMessage) -> Handled
+    #[tactic(auto, unfolding(crate::specs::Messages::handled))]
+    pub fn handle_control_message(self, m: ControlMessage) -> Result<Player, Refusal>
         ensures { result ≡ handled self m }
     {
         match m {
@@ -178,34 +177,30 @@ impl Player {
     }
 
     // Gives the player its clip: `channels` channels of `frames` frames, at `rate`, in `samples`.
+    #[tactic(auto, unfolding(crate::specs::Messages::buffered))]
     pub fn set_buffer(
         mut self,
         channels: usize,
         frames: usize,
         rate: f32,
         samples: &[u32],
-    ) -> Handled
+    ) -> Result<Player, Refusal>
         ensures { result ≡ buffered self channels frames rate (length samples.now) }
     {
-        if !buffer::is_valid_shape(channels, frames, samples.len()) {
-            return Handled::Refused(refusals::SHAPE);
-        }
-        if !buffer::is_valid_sample_rate(rate) {
-            return Handled::Refused(refusals::RATE);
-        }
+        check_shape(channels, frames, samples.len())?;
+        check_rate(rate)?;
         if self.has_buffer {
-            return Handled::Refused(refusals::SECOND);
+            return Err(Refusal::Second);
         }
         if frames == 0 {
-            return Handled::Refused(refusals::EMPTY);
+            return Err(Refusal::Empty);
         }
         self.has_buffer = true;
-        let shape = Shape {
+        self.shape = Shape {
             channels,
             frames,
             rate,
         };
-        self.shape = shape;
-        Handled::Done(self.clamp_loop_boundaries())
+        Ok(self.clamp_loop_boundaries())
     }
 }

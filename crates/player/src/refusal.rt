@@ -3,7 +3,7 @@ ghost use Rattle.std.specs.Prelude.{◌≡◌};
 ghost use Rattle.player.specs.Block.{bad_block_time, bad_rate, bad_samples, checks};
 
 use super::Player;
-use buffer::refusals;
+use buffer::Refusal;
 use rounding::is_finite;
 use seconds::widened;
 
@@ -16,50 +16,39 @@ const SLOWEST: f64 = 5.421010862427522170037264004349708557128906250e-20;
 const FASTEST: f64 = 18446744073709551616.0;
 
 // A rate or a factor that no block may have.
+#[tactic(auto, using(crate::proofs::Limits::slowest_bits, crate::proofs::Limits::fastest_bits), unfolding(crate::specs::Block::bad_rate))]
 fn is_bad_rate(rate: f32, factor: f64) -> bool
     ensures { result ≡ bad_rate rate factor }
 {
-    if !is_finite(widened(rate)) {
-        return true;
-    }
-    if SLOWEST <= factor {
-        return !(factor <= FASTEST);
-    }
-    true
+    !is_finite(widened(rate)) || !(SLOWEST <= factor && factor <= FASTEST)
 }
 
 impl Player {
     // A time that the next block may not have.
+    #[tactic(auto, using(crate::proofs::Limits::latest_bits), unfolding(crate::specs::Block::bad_block_time))]
     fn is_bad_block_time(self, time: f64) -> bool
         ensures { result ≡ bad_block_time self time }
     {
-        if time > LATEST {
-            return true;
-        }
-        if time < 0.0 {
-            return true;
-        }
-        if !is_finite(time) {
-            return true;
-        }
-        if self.has_block {
-            return time <= self.block_time.0;
-        }
-        false
+        !is_finite(time)
+            || time < 0.0
+            || time > LATEST
+            || self.has_block && time <= self.block_time.0
     }
 
     // Whether samples of the length `len` are not those of the player's buffer.
+    #[tactic(auto, unfolding(crate::specs::Block::bad_samples))]
     fn is_bad_samples(self, len: usize) -> bool
         ensures { result ≡ bad_samples self len }
     {
         if self.has_buffer {
-            return !buffer::is_valid_shape(self.shape.channels, self.shape.frames, len);
+            !buffer::is_valid_shape(self.shape.channels, self.shape.frames, len)
+        } else {
+            len != 0
         }
-        len != 0
     }
 
-    // The number of the refusal, and 0 for none. Cents are checked by who takes them.
-    pub fn block_refusal(
+    // The checks of a block. Cents are checked by who takes them.
+    pub fn check_block(
         self,
         out_len: usize,
         samples_len: usize,
@@ -67,24 +56,24 @@ impl Player {
         bad_cents: bool,
         rate: f32,
         factor: f64,
-    ) -> u32
+    ) -> Result<(), Refusal>
         ensures { result ≡ checks 128 self out_len samples_len time bad_cents rate factor }
     {
         if out_len != 4096 {
-            return refusals::LENGTH;
+            return Err(Refusal::Length);
         }
         if self.is_bad_block_time(time) {
-            return refusals::TIME;
+            return Err(Refusal::Time);
         }
         if bad_cents {
-            return refusals::CENTS;
+            return Err(Refusal::Cents);
         }
         if is_bad_rate(rate, factor) {
-            return refusals::SPEED;
+            return Err(Refusal::Speed);
         }
         if self.is_bad_samples(samples_len) {
-            return refusals::SHAPE;
+            return Err(Refusal::Shape);
         }
-        0
+        Ok(())
     }
 }

@@ -9,8 +9,8 @@ use lib.Ieee.{Float}
 use Rattle.seconds.specs.Seconds.{one}
 use Rattle.player.specs.Block.{rendered, output}
 use Rattle.player.specs.declared.Player.{Player}
-use Rattle.player.specs.declared.Handled.{Handled}
-use Rattle.player.specs.declared.Handled.TheVariants as told
+use Rattle.buffer.specs.declared.refusals.Refusal.{Refusal}
+use Rattle.std.specs.Prelude.{Result, Ok, Err}
 use Rattle.player_c.specs.Playing.{block_time, left, next, played, goes_on, output_after}
 
 -- q and `held` are the player and the output after n blocks
@@ -30,12 +30,12 @@ module _ (p : Player) (out samples : List ℕ) (rate : Float) where
   after_more n m q q' held held' up at made wrote = rw (up, add-one) record { is = rw (made, at.is, at.holds); holds = rw (wrote, at.is, at.holds) }
 
 -- what the run answers and leaves, by its beginning
-module _ (h : Handled) (out samples : List ℕ) (rate : Float) (blocks : ℕ) where
-  pub after_all_lem : (p q : Player) (n : ℕ) (held : List ℕ) → h ≡ told.Done p → n ≡ blocks → After p out samples rate n q held
+module _ (h : Result Player Refusal) (out samples : List ℕ) (rate : Float) (blocks : ℕ) where
+  pub after_all_lem : (p q : Player) (n : ℕ) (held : List ℕ) → h ≡ Ok p → n ≡ blocks → After p out samples rate n q held
       → (not q.render_state.ended ≡ goes_on h out samples rate blocks) × (held ≡ output_after h out samples rate blocks)
   unfolding goes_on output_after
   after_all_lem p q n held is all at = rw (is, at.is, at.holds, all) (refl, refl)
 
-  pub refused : (number : ℕ) → h ≡ told.Refused number → (false ≡ goes_on h out samples rate blocks) × (out ≡ output_after h out samples rate blocks)
+  pub refused : (refusal : Refusal) → h ≡ Err refusal → (false ≡ goes_on h out samples rate blocks) × (out ≡ output_after h out samples rate blocks)
   unfolding goes_on output_after
-  refused number is = rw is (refl, refl)
+  refused refusal is = rw is (refl, refl)

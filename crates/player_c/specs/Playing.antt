@@ -9,10 +9,9 @@ use Rattle.player.specs.Block.{rendered, output}
 use Rattle.player.specs.declared.Player.{Player}
 use Rattle.player.specs.declared.ControlMessage.{ControlMessage}
 use Rattle.player.specs.declared.ControlMessage.TheVariants.{Start, Loop}
-use Rattle.player.specs.declared.Handled.{Handled}
-use Rattle.player.specs.declared.Handled.TheVariants as told
-use Rattle.player.specs.declared.Rendered.{Rendered}
-use Rattle.player.specs.declared.Rendered.TheVariants as block
+use Rattle.buffer.specs.declared.refusals.Refusal.{Refusal}
+use Rattle.std.specs.Prelude.{Result, Ok, Err}
+use Rattle.player.specs.declared.BlockReport.{BlockReport}
 
 -- the rate of the clip and of the output
 abbrev pub samples_in_second : Float
@@ -20,16 +19,16 @@ samples_in_second = whole 48000
 
 -- ---- the beginning: after a refusal nothing more is asked
 -- `len` is the length of the lent samples
-unfoldable pub given : Handled → ℕ → ℕ → ℕ → Handled
-given (told.Done p) channels frames len = buffered p channels frames samples_in_second len
-given (told.Refused number) channels frames len = told.Refused number
+unfoldable pub given : Result Player Refusal → ℕ → ℕ → ℕ → Result Player Refusal
+given (Ok p) channels frames len = buffered p channels frames samples_in_second len
+given (Err refusal) channels frames len = Err refusal
 
-unfoldable pub sent : Handled → ControlMessage → Handled
-sent (told.Done p) m = handled p m
-sent (told.Refused number) m = told.Refused number
+unfoldable pub sent : Result Player Refusal → ControlMessage → Result Player Refusal
+sent (Ok p) m = handled p m
+sent (Err refusal) m = Err refusal
 
 -- the player that was given the clip, started at 0 with no duration and told whether to loop
-unfoldable pub begun : ℕ → ℕ → Bool → ℕ → Handled
+unfoldable pub begun : ℕ → ℕ → Bool → ℕ → Result Player Refusal
 begun channels frames looped len = sent (sent (given (made samples_in_second) channels frames len) (Start none none never)) (Loop looped)
 
 -- ---- blocks, one after another
@@ -38,9 +37,9 @@ unfoldable pub block_time : ℕ → Float
 block_time n = div binary64 (mul binary64 (whole n) (whole 128)) samples_in_second
 
 -- a refused block leaves the player
-unfoldable pub left : Player → Rendered → Player
-left p (block.Block r) = r.player
-left p (block.Refused number) = p
+unfoldable pub left : Player → Result BlockReport Refusal → Player
+left p (Ok r) = r.player
+left p (Err refusal) = p
 
 -- the player and the lent output after some blocks
 pub record Played : Type 0 where
@@ -60,11 +59,11 @@ played p out samples rate (suc n) = next (played p out samples rate n) samples r
 
 -- ---- what the run answers and leaves
 -- whether the player has begun, and has not ended after the blocks
-unfoldable pub goes_on : Handled → List ℕ → List ℕ → Float → ℕ → Bool
-goes_on (told.Done p) out samples rate blocks = not (played p out samples rate blocks).player.render_state.ended
-goes_on (told.Refused number) out samples rate blocks = false
+unfoldable pub goes_on : Result Player Refusal → List ℕ → List ℕ → Float → ℕ → Bool
+goes_on (Ok p) out samples rate blocks = not (played p out samples rate blocks).player.render_state.ended
+goes_on (Err refusal) out samples rate blocks = false
 
 -- without a beginning the output is not touched
-unfoldable pub output_after : Handled → List ℕ → List ℕ → Float → ℕ → List ℕ
-output_after (told.Done p) out samples rate blocks = (played p out samples rate blocks).out
-output_after (told.Refused number) out samples rate blocks = out
+unfoldable pub output_after : Result Player Refusal → List ℕ → List ℕ → Float → ℕ → List ℕ
+output_after (Ok p) out samples rate blocks = (played p out samples rate blocks).out
+output_after (Err refusal) out samples rate blocks = out

@@ -5,10 +5,11 @@
 ghost use Rattle.std.specs.Prelude.{◌≡◌, length};
 ghost use Rattle.player.specs.Block.{output};
 ghost use Rattle.cents.specs.Cents.{output_cents};
-ghost use Rattle.preview.specs.Preview.{coming_of, previewed, previewed_cents};
+ghost use Rattle.preview.specs.Preview.{previewed, previewed_cents};
 
+use buffer::Refusal;
 use cents::process_cents;
-use player::{Player, Rendered};
+use player::{BlockReport, Player};
 use seconds::BufferSeconds;
 
 // Of the coming block, what it would answer, but for the player that it would leave.
@@ -20,22 +21,20 @@ pub struct Coming {
     pub position: BufferSeconds,
 }
 
-#[derive(Clone, Copy)]
-pub enum Previewed {
-    Block(Coming),
-    Refused(u32),
-}
+// Of what a block answers, all but the player.
+impl From<BlockReport> for Coming {
+    ghost use Rattle.std.specs.Prelude.{◌≡◌};
+    ghost use Rattle.preview.specs.Preview.{coming_of};
 
-// Of the player that a block would leave, what is shown.
-fn coming_of(player: Player, keep_alive: bool, channels: usize) -> Coming
-    ensures { result ≡ coming_of player keep_alive channels }
-{
-    let position = player.render_state.buffer_time;
-    Coming {
-        keep_alive,
-        ended: player.render_state.ended,
-        channels,
-        position,
+    ghost from_gives = { λ r coming. coming ≡ coming_of r };
+
+    fn from(r: BlockReport) -> Self {
+        Self {
+            keep_alive: r.keep_alive,
+            ended: r.ended,
+            channels: r.channels,
+            position: r.position,
+        }
     }
 }
 
@@ -47,17 +46,16 @@ pub fn preview(
     time: f64,
     rate: f32,
     factor: f64,
-) -> Previewed
+) -> Result<Coming, Refusal>
     ensures { (result ≡ previewed 128 p (length out.old) (length samples.now) time rate factor)
         × (out.new ≡ output 128 p out.old samples.now time rate factor) }
 {
-    match p.process(out, samples, time, rate, factor) {
-        Rendered::Block(r) => Previewed::Block(coming_of(r.player, r.keep_alive, r.channels)),
-        Rendered::Refused(number) => Previewed::Refused(number),
-    }
+    p.process(out, samples, time, rate, factor)
+        .map(Coming::from)
 }
 
-// Renders the coming block into a second output, detuned by whole cents.
+// Renders the coming block into a second output, detuned by whole cents. One call over either speed
+// would be no plainer: each is the block call of its kind.
 pub fn preview_cents(
     p: Player,
     out: &mut [u32],
@@ -65,12 +63,9 @@ pub fn preview_cents(
     time: f64,
     rate: f32,
     cents: i32,
-) -> Previewed
+) -> Result<Coming, Refusal>
     ensures { (result ≡ previewed_cents 128 p (length out.old) (length samples.now) time rate cents)
         × (out.new ≡ output_cents 128 p out.old samples.now time rate cents) }
 {
-    match process_cents(p, out, samples, time, rate, cents) {
-        Rendered::Block(b) => Previewed::Block(coming_of(b.player, b.keep_alive, b.channels)),
-        Rendered::Refused(number) => Previewed::Refused(number),
-    }
+    process_cents(p, out, samples, time, rate, cents).map(Coming::from)
 }

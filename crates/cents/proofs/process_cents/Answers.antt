@@ -9,42 +9,48 @@ use lib.Ieee.{Float}
 use mir.Syntax.{w32}
 use mir.Val.{SFits, to_z, of_z}
 use mir.Facts.{to_z-of_z}
-use Rattle.detune.specs.Detune.{factor_of}
-use Rattle.detune.specs.declared.Detune.{Detune}
-use Rattle.detune.specs.declared.Detune.TheVariants.{By, Refused as Refused'}
-use Rattle.player.specs.Block.{checks, rendered, output}
+use Rattle.detune.specs.Detune.{bad_cents}
+use Rattle.buffer.specs.declared.refusals.Refusal.{Refusal}
+use Rattle.std.specs.Prelude.{Result, Ok, Err}
+use Rattle.player.specs.Block.{rendered, output}
 use Rattle.player.specs.declared.Player.{Player}
-use Rattle.player.specs.declared.Rendered.{Rendered}
-use Rattle.player.specs.declared.Rendered.TheVariants.{Refused}
+use Rattle.player.specs.declared.BlockReport.{BlockReport}
+use Rattle.std.proofs.lemmas.Result.{err_from_is_err_and}
+use Rattle.seconds.specs.Seconds.{one}
 use Rattle.cents.specs.Cents.{rendered_cents, output_cents, factored_at}
-use Rattle.cents.proofs.Same.{refused, unwritten}
+use Rattle.cents.proofs.Same.{refused, never}
 use Rattle.cents.proofs.Silent.{at_answer, at_output, at_bad}
 use Rattle.cents.proofs.process_cents.Goals as goal
 
-module _ (p : Player) (out samples : List ℕ) (time rate : Float) (cents : ℤ) (own : SFits w32 cents) (d : Detune) (of : d ≡ factored_at 128 p time (to_z w32 (of_z w32 cents))) where
+module _ (p : Player) (out samples : List ℕ) (time rate : Float) (cents : ℤ) (own : SFits w32 cents) (d : Result Float Refusal) (of : d ≡ factored_at 128 p time (to_z w32 (of_z w32 cents))) where
   is : factored_at 128 p time cents ≡ d
   is = sym (of ∙ ap (factored_at 128 p time) (to_z-of_z {w = w32} {z = cents} own))
 
   -- by a factor
-  detuned : (factor : Float) → d ≡ By factor → (r : Rendered) (o : List ℕ) → (r ≡ rendered 128 p (length out) (length samples) time rate factor) × (o ≡ output 128 p out samples time rate factor)
+  detuned : (factor : Float) → d ≡ Ok factor → (r : Result BlockReport Refusal) (o : List ℕ) → (r ≡ rendered 128 p (length out) (length samples) time rate factor) × (o ≡ output 128 p out samples time rate factor)
       → (r ≡ rendered_cents 128 p (length out) (length samples) time rate cents) × (o ≡ output_cents 128 p out samples time rate cents)
   detuned factor e r o h =
       (h.0 ∙ sym (at_answer 128 p time rate cents factor (is ∙ e) (length out) (length samples)), h.1 ∙ sym (at_output 128 p time rate cents factor (is ∙ e) out samples))
 
   -- turned down
-  down : (number : ℕ) → d ≡ Refused' number → (k : ℕ) → k ≡ checks 128 p (length out) (length samples) time true rate (factor_of cents)
-      → (Refused k ≡ rendered_cents 128 p (length out) (length samples) time rate cents) × (out ≡ output_cents 128 p out samples time rate cents)
-  down number e k h =
-      let bad = at_bad 128 p time cents number (is ∙ e) in
-      (ap Refused h ∙ sym (refused 128 p time rate cents bad (length out) (length samples)), sym (unwritten 128 p time rate cents bad out samples))
+  bad : (refusal : Refusal) → d ≡ Err refusal → bad_cents cents ≡ true
+  bad refusal e = at_bad 128 p time cents refusal (is ∙ e)
 
-pub returns-in-By : goal.returns-in-By
-returns-in-By c =
+pub returns-in-Ok : goal.returns-in-Ok
+returns-in-Ok c =
     detuned c.args.p c.args.out.now c.args.samples.now c.args.time c.args.rate c.args.cents c.ranges.cents _
-    c.factor_at.ensures _ c.in-By.is
+    c.factor_at.ensures _ c.in-Ok.is
     _ _ c.process.ensures
 
-pub returns-in-Refused : goal.returns-in-Refused
-returns-in-Refused c =
-    down c.args.p c.args.out.now c.args.samples.now c.args.time c.args.rate c.args.cents c.ranges.cents _
-    c.factor_at.ensures _ c.in-Refused.is _ c.block_refusal.ensures
+pub returns-in_err-check_block-in-Err : goal.returns-in_err-check_block-in-Err
+returns-in_err-check_block-in-Err c =
+    let a = c.args in
+    let p = err_from_is_err_and c.from_residual.result c.from_residual.ensures.1 in
+    let no = bad a.p a.out.now a.samples.now a.time a.rate a.cents c.ranges.cents _ c.factor_at.ensures _ c.in-Err.is in
+    let e = refused 128 a.p a.time a.rate a.cents a.out.now a.samples.now one _ no (sym c.in_err-check_block-in-Err.ensures) in
+    (p.1 ∙ ap Err p.2 ∙ sym e.0, sym e.1)
+
+pub returns-in_ok-check_block-in-Err : goal.returns-in_ok-check_block-in-Err
+returns-in_ok-check_block-in-Err c =
+    let a = c.args in
+    absurd (never 128 a.p a.time a.rate (length a.out.now) (length a.samples.now) one (sym c.in_ok-check_block-in-Err.ensures))

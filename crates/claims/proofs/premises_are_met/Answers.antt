@@ -12,14 +12,13 @@ use Rattle.player.specs.Record.{fresh}
 use Rattle.player.specs.Messages.{clamped_start, clamped_end, clamped, bad_time, on_start, on_stop, on_loop, handled, buffered}
 use Rattle.aligned.specs.Aligned.{first_frame, ends_within, played, next_frame, last_wrap, aligned_position}
 use Rattle.sub_sample.specs.SubSample.{head_at}
-use Rattle.player.specs.Block.{idle, start_at, is_aligned, has_ended, turns_over, aligned_plan, sub_sample_plan, settings, first_head, plan, bad_block_time, bad_rate, bad_samples, refusal, rendered}
+use Rattle.player.specs.Block.{idle, start_at, is_aligned, has_ended, turns_over, aligned_plan, sub_sample_plan, settings, first_head, plan, bad_block_time, bad_rate, bad_samples, checked, rendered}
 use Rattle.claims.specs.Calls.{Call, all_typed, accepts, next, accepted, opening, playing, Clip, Started, clip_in, start_in, stop_in, switch_in, point_in, gathered}
 use Rattle.claims.specs.LongRun.{starts_in_time, OnlyBlocks}
 use Rattle.detune.specs.Table.{entries}
 use Rattle.detune.specs.Detune.{octaves, above, bad_cents, factor_of}
-use Rattle.cents.specs.Cents.{cents_refusal, rendered_cents}
+use Rattle.cents.specs.Cents.{checked_cents, rendered_cents}
 use Rattle.claims.specs.Longer.{replaced, unlooked}
-use Rattle.preview.specs.Preview.{shown, previewed, previewed_cents}
 use Rattle.claims.specs.Instances.{rate, frames, looped_calls, plain_calls, stopped_calls, longer_calls, previewed_calls, Met, Instances}
 use Rattle.claims.proofs.premises_are_met.Goals as goal
 
@@ -56,8 +55,8 @@ met calls blocks typed clips starts time switches stops points plain played = re
 }
 
 instances : Instances
-unfolding replaced unlooked shown previewed previewed_cents cents_refusal rendered_cents bad_cents factor_of octaves above entries accepted accepts next opening playing handled buffered on_start on_stop
-    on_loop bad_time clamped clamped_start clamped_end fresh valid_rate valid_shape duration rendered refusal bad_block_time bad_rate bad_samples plan is_aligned start_at
+unfolding replaced unlooked checked_cents rendered_cents bad_cents factor_of octaves above entries accepted accepts next opening playing handled buffered on_start on_stop
+    on_loop bad_time clamped clamped_start clamped_end fresh valid_rate valid_shape duration rendered checked bad_block_time bad_rate bad_samples plan is_aligned start_at
     aligned_plan sub_sample_plan settings first_head head_at has_ended turns_over first_frame ends_within played next_frame last_wrap aligned_position dt block_seconds
     block_end idle round_away of_bits of_int round sum add mul div rem lt le eq ne neg sub to_unsigned fits
 instances = (

@@ -11,7 +11,7 @@ use Rattle.player.proofs.output.write_aligned.Goals as goal
 
 pub loop-c-init : goal.loop-c-init
 unfolding written
-loop-c-init c = (search rules, search rules, refl)
+loop-c-init c = (search rules, refl)
 
 pub overflow_mul-b : goal.overflow_mul-b
 overflow_mul-b c = omega (arith, row_fits c.args.frames c.loop-c.c c.args.count c.loop-c-test.true)
@@ -29,8 +29,8 @@ pub loop-c-preserved : goal.loop-c-preserved
 loop-c-preserved c =
     let at = c.loop-c in
     let given = c.args in
-    let made = turn _ _ _ _ (omega arith) _ _ _ at.invariant.1 (omega arith) at.invariant.2 (rw (part_length (given.frames * at.c) given.frames given.samples.now (omega (arith, row_fits given.frames at.c given.count c.loop-c-test.true))) at c.write_channel.ensures) in
-    (search rules, ap length made ∙ length_written _ _ _ _ (omega arith) _ (omega arith), made)
+    let made = turn _ _ _ _ (omega arith) _ _ _ at.invariant.0 (omega arith) at.invariant.1 (rw (part_length (given.frames * at.c) given.frames given.samples.now (omega (arith, row_fits given.frames at.c given.count c.loop-c-test.true))) at c.write_channel.ensures) in
+    (ap length made ∙ length_written _ _ _ _ (omega arith) _ (omega arith), made)
 
 pub returns : goal.returns
-returns c = rw c.loop-c.invariant.2 (ap (written 128 _ _ _ _) (omega arith))
+returns c = rw c.loop-c.invariant.1 (ap (written 128 _ _ _ _) (omega arith))

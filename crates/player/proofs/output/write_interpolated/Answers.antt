@@ -12,7 +12,7 @@ use Rattle.player.proofs.output.write_interpolated.Goals as goal
 
 pub loop-c-init : goal.loop-c-init
 unfolding written
-loop-c-init c = (search rules, search rules, refl)
+loop-c-init c = (search rules, refl)
 
 pub overflow_mul-b : goal.overflow_mul-b
 overflow_mul-b c = omega (arith, row_fits c.args.frames c.loop-c.c c.args.count c.loop-c-test.true)
@@ -31,8 +31,8 @@ loop-c-preserved c =
     let at = c.loop-c in
     let whole = part_length (128 * at.c) 128 at.out (omega arith) in
     let part = filled_end _ _ _ _ c.write_channel.ensures (omega (arith, whole)) in
-    let made = turn _ _ _ _ (omega arith) _ _ _ at.invariant.1 (omega arith) at.invariant.2 part in
-    (search rules, ap length made ∙ length_written _ _ _ _ (omega arith) _ (omega arith), made)
+    let made = turn _ _ _ _ (omega arith) _ _ _ at.invariant.0 (omega arith) at.invariant.1 part in
+    (ap length made ∙ length_written _ _ _ _ (omega arith) _ (omega arith), made)
 
 pub returns : goal.returns
-returns c = rw c.loop-c.invariant.2 (ap (written 128 _ _ _ _) (omega arith))
+returns c = rw c.loop-c.invariant.1 (ap (written 128 _ _ _ _) (omega arith))

@@ -1,2 +1,0 @@
--- The laws that the proofs of `preview` share.
-pub mod Reports
