@@ -1,6 +1,6 @@
 -- The player of a refused rate, and that it never plays, as one claim about the definitions: it holds a buffer of no channels, every call leaves it so,
 -- and every block of such a player is refused.
-use Rattle.std.specs.Prelude.{◌≡◌, true, false, ℕ, ◌≤◌, ℤ, Float}
+use Rattle.std.specs.Prelude.{◌≡◌, true, false, ℕ, ◌≤◌, ℤ, Float, Result}
 use Rattle.std.specs.Float.{binary32}
 use Rattle.std.specs.Float.Ieee.{of_bits}
 use Rattle.buffer.specs.declared.Shape.{Shape}
@@ -10,8 +10,9 @@ use Rattle.player.specs.Messages.{handled, buffered}
 use Rattle.player.specs.Block.{rendered}
 use Rattle.cents.specs.Cents.{rendered_cents}
 use Rattle.player.specs.declared.Player.{Player}
+use Rattle.player.specs.declared.BlockReport.{BlockReport}
 use Rattle.player.specs.declared.ControlMessage.{ControlMessage}
-use Rattle.player.specs.declared.Rendered.{Rendered}
+use Rattle.buffer.specs.declared.refusals.Refusal.{Refusal}
 use Rattle.lent.specs.Lent.{after_call, after_block}
 
 -- no shape
@@ -20,7 +21,7 @@ no_shape = shape_of 0 0 (of_bits binary32 0)
 
 -- The player that a refused rate is answered with: ended, marked as started and as holding a buffer of no channels.
 -- So a start, the buffer call and every block of it are refused.
-unfoldable pub nobody : Player
+abbrev pub nobody : Player
 nobody = record {
   sample_rate = of_bits binary32 0;
   start_time = context none;
@@ -46,7 +47,7 @@ StaysMute =
     × ((p : Player) (channels frames : ℕ) (rate : Float) (length : ℕ) → Mute p → Mute (after_call p (buffered p channels frames rate length)).player)
 
 -- a refused block: some number, and the same player
-abbrev pub Refuses : Player → Rendered → Type 0
+abbrev pub Refuses : Player → Result BlockReport Refusal → Type 0
 Refuses p block = (1 ≤ (after_block p block).answer.refusal) × ((after_block p block).player ≡ p)
 
 abbrev pub IsRefused : Type 0

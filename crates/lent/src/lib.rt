@@ -4,19 +4,21 @@
 #![tactic(auto)]
 
 ghost use Rattle.std.specs.Prelude.{◌≡◌, length};
+ghost use Rattle.buffer.specs.Answers.{passed};
 ghost use Rattle.player.specs.Messages.{handled, buffered};
 ghost use Rattle.player.specs.Block.{rendered, output};
 ghost use Rattle.cents.specs.Cents.{rendered_cents, output_cents, factored_at};
-ghost use Rattle.lent.specs.Lent.{after_call, after_block, factor_for, in_cents};
+ghost use Rattle.lent.specs.Lent.{after_call, after_block, in_cents};
 ghost use Rattle.lent.specs.Nobody.{no_shape, nobody, NobodyPlays};
 
-use buffer::{Shape, refusals};
+use buffer::{Refusal, Shape};
 use cents::{factor_at, process_cents};
-use detune::Detune;
-use player::{ControlMessage, Handled, LoopState, Player, RenderState, Rendered};
+use player::{BlockReport, ControlMessage, LoopState, Player, RenderState};
 use seconds::{BufferSeconds, ContextSeconds};
 
-// The player that a message or a buffer call leaves, and the number of its refusal, 0 for none.
+// The player that a message or a buffer call leaves, and the number of its refusal, 0 for none. C sees
+// this record and those below, and an exported function can't return an enum: so a number stands beside
+// the values.
 #[repr(C)]
 #[derive(Clone, Copy)]
 pub struct Told {
@@ -50,12 +52,17 @@ pub struct Factored {
     pub refusal: u32,
 }
 
-pub fn after_call(p: Player, handled: Handled) -> Told
+// A refused call leaves the player `p`, which a `From` of the answer alone could not give back; so too
+// `after_block`.
+pub fn after_call(p: Player, handled: Result<Player, Refusal>) -> Told
     ensures { result ≡ after_call p handled }
 {
     match handled {
-        Handled::Done(player) => Told { player, refusal: 0 },
-        Handled::Refused(refusal) => Told { player: p, refusal },
+        Ok(player) => Told { player, refusal: 0 },
+        Err(refusal) => Told {
+            player: p,
+            refusal: refusal.number(),
+        },
     }
 }
 
@@ -77,32 +84,30 @@ pub fn buffer_by_value(
     after_call(p, p.set_buffer(channels, frames, rate, samples))
 }
 
-fn after_block(p: Player, rendered: Rendered) -> Blocked
+fn after_block(p: Player, rendered: Result<BlockReport, Refusal>) -> Blocked
     ensures { result ≡ after_block p rendered }
 {
     match rendered {
-        Rendered::Block(r) => {
-            let player = r.player;
-            let position = r.position;
-            let answer = BlockAnswer {
-                position,
+        Ok(r) => Blocked {
+            player: r.player,
+            answer: BlockAnswer {
+                position: r.position,
                 channels: r.channels,
                 refusal: 0,
                 keep_alive: r.keep_alive,
                 ended: r.ended,
-            };
-            Blocked { player, answer }
-        }
-        Rendered::Refused(refusal) => {
-            let answer = BlockAnswer {
+            },
+        },
+        Err(refusal) => Blocked {
+            player: p,
+            answer: BlockAnswer {
                 position: BufferSeconds(0.0),
                 channels: 0,
-                refusal,
+                refusal: refusal.number(),
                 keep_alive: false,
                 ended: false,
-            };
-            Blocked { player: p, answer }
-        }
+            },
+        },
     }
 }
 
@@ -134,58 +139,54 @@ pub fn cents_by_value(
     after_block(p, process_cents(p, out, samples, time, rate, cents))
 }
 
-pub fn factor_for(detune: Detune) -> Factored
-    ensures { result ≡ factor_for detune }
-{
-    match detune {
-        Detune::By(factor) => Factored { factor, refusal: 0 },
-        Detune::Refused(refusal) => Factored {
-            factor: 0.0,
-            refusal,
-        },
+impl From<Result<f64, Refusal>> for Factored {
+    ghost use Rattle.std.specs.Prelude.{◌≡◌};
+    ghost use Rattle.lent.specs.Lent.{factor_for};
+
+    ghost from_gives = { λ detune factored. factored ≡ factor_for detune };
+
+    fn from(detune: Result<f64, Refusal>) -> Self {
+        match detune {
+            Ok(factor) => Self { factor, refusal: 0 },
+            Err(refusal) => Self {
+                factor: 0.0,
+                refusal: refusal.number(),
+            },
+        }
     }
 }
 
 // The factor that a block in cents asks for. No cents, at which a block may be quick, are told here,
 // where they cost no call.
-pub fn factor_of(p: Player, time: f64, cents: i32) -> Factored
-    ensures { result ≡ factor_for (factored_at 128 p time cents) }
+pub fn factor_of(p: Player, time: f64, cents: i32) -> Result<f64, Refusal>
+    ensures { result ≡ factored_at 128 p time cents }
 {
     if cents == 0 {
-        return Factored {
-            factor: 1.0,
-            refusal: 0,
-        };
+        return Ok(1.0);
     }
-    factor_for(factor_at(p, time, cents))
+    factor_at(p, time, cents)
 }
 
-// The answer of a block that was played with the factor of refused cents.
+// The answer of a block that was played with the factor of refused cents: its number, since C's record
+// holds that.
 pub fn in_cents(answer: BlockAnswer) -> BlockAnswer
     ensures { result ≡ in_cents answer }
 {
-    let position = answer.position;
-    let mut refusal = answer.refusal;
-    if refusal == refusals::SPEED {
-        refusal = refusals::CENTS;
+    if answer.refusal == Refusal::Speed.number() {
+        return BlockAnswer {
+            refusal: Refusal::Cents.number(),
+            ..answer
+        };
     }
-    BlockAnswer {
-        position,
-        channels: answer.channels,
-        refusal,
-        keep_alive: answer.keep_alive,
-        ended: answer.ended,
-    }
+    answer
 }
 
-// A control message. Returns the number of its refusal, 0 for none.
-pub fn handle_control_message(p: &mut Player, m: ControlMessage) -> u32
-    ensures { (result ≡ (after_call p.old (handled p.old m)).refusal)
-        × (p.new ≡ (after_call p.old (handled p.old m)).player) }
+// A control message on a lent player.
+pub fn handle_control_message(p: &mut Player, m: ControlMessage) -> Result<(), Refusal>
+    ensures { (result ≡ passed (handled p.old m)) × (p.new ≡ (after_call p.old (handled p.old m)).player) }
 {
-    let r = message_by_value(*p, m);
-    *p = r.player;
-    r.refusal
+    *p = p.handle_control_message(m)?;
+    Ok(())
 }
 
 // The shape of a refused answer.

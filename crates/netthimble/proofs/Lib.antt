@@ -1,3 +1,3 @@
 -- What the proofs of `netthimble` share.
 mod InCents
-mod Same
+mod Moved

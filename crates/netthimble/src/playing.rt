@@ -9,8 +9,8 @@ ghost use Rattle.lent.specs.Lent.{after_call, after_block, factor_for};
 ghost use Rattle.lent.specs.Nobody.{nobody};
 
 use lent::{
-    BlockAnswer, Factored, Told, after_call, block_by_value, buffer_by_value, factor_for,
-    factor_of, in_cents, message_by_value, nobody,
+    BlockAnswer, Factored, Told, after_call, block_by_value, buffer_by_value, factor_of, in_cents,
+    message_by_value, nobody,
 };
 use player::{ControlMessage, Player};
 
@@ -110,7 +110,7 @@ pub extern "C" fn netthimble_player_process(
 pub extern "C" fn netthimble_factor(cents: i32) -> Factored
     ensures { result ≡ factor_for (factored cents) }
 {
-    factor_for(detune::factor(cents))
+    detune::factor(cents).into()
 }
 
 // Renders a block into the lent output, detuned by whole cents: the block call itself, with the
@@ -130,11 +130,10 @@ pub extern "C" fn netthimble_player_process_cents(
         ≡ (after_block p.old (rendered_cents 128 p.old (length out.old) (length samples.now) time rate cents)).player)
         × (out.new ≡ output_cents 128 p.old out.old samples.now time rate cents) }
 {
-    let f = factor_of(*p, time, cents);
-    if f.refusal == 0 {
-        return netthimble_player_process(p, out, samples, time, rate, f.factor);
+    match factor_of(*p, time, cents) {
+        Ok(factor) => netthimble_player_process(p, out, samples, time, rate, factor),
+        Err(_) => in_cents(netthimble_player_process(p, out, samples, time, rate, 0.0)),
     }
-    in_cents(netthimble_player_process(p, out, samples, time, rate, f.factor))
 }
 
 // The bytes of a player's record.
@@ -142,5 +141,5 @@ pub extern "C" fn netthimble_player_process_cents(
 pub extern "C" fn netthimble_player_size() -> usize
     ensures { result ≡ 144 }
 {
-    144
+    size_of::<Player>()
 }

@@ -1,0 +1,65 @@
+-- A block leaves what it may not change as it was: so the library writes back the rest alone. Assumes nothing.
+use mathlib.Core.Path.{◌≡◌, refl}
+use mathlib.Core.Bool.{Bool, true, false, not, ◌&&◌, cond}
+use Prim.Native.Nat.{ℕ}
+use lib.Ieee.{Float, le, ne}
+use Rattle.std.specs.Prelude.{Result, Ok, Err}
+use Rattle.std.proofs.lemmas.Bool.{cond_both}
+use Rattle.buffer.specs.declared.refusals.Refusal.{Refusal}
+use Rattle.buffer.specs.Answers.{after_checks}
+use Rattle.player.specs.Block.{Plan, silent, idle, computed_rate, is_aligned, aligned_plan, sub_sample_plan, plan, checked, report_of, rendered}
+use Rattle.player.specs.declared.Player.{Player}
+use Rattle.seconds.specs.Seconds.{never, block_end}
+use Rattle.lent.specs.Lent.{after_block}
+
+-- p with the start time, the offset, what is rendered and the last accepted block's time of q
+abbrev pub moved_to : Player → Player → Player
+moved_to p q = record {
+  sample_rate = p.sample_rate;
+  start_time = q.start_time;
+  stop_time = p.stop_time;
+  offset = q.offset;
+  duration = p.duration;
+  loop_state = p.loop_state;
+  render_state = q.render_state;
+  has_start = p.has_start;
+  has_buffer = p.has_buffer;
+  shape = p.shape;
+  has_block = q.has_block;
+  block_time = q.block_time;
+}
+
+-- the player of a plan
+record Keeps (p : Player) (q : Plan) : Type 0 where
+  kept : moved_to p q.player ≡ q.player
+
+silence : (p : Player) (time : Float) (ended keep : Bool) → Keeps p (silent (idle p time ended) keep)
+unfolding idle
+silence p time ended keep = record { kept = refl }
+
+either : (p : Player) (b : Bool) (x y : Plan) → Keeps p x → Keeps p y → Keeps p (cond b x y)
+either p b x y first second = cond_both b x y (Keeps p) (λ _. first) (λ _. second)
+
+keeps : (n : ℕ) (p : Player) (time rate factor : Float) → Keeps p (plan n p time rate factor)
+unfolding plan aligned_plan sub_sample_plan
+keeps n p time rate factor =
+    let end = block_end n time p.sample_rate in
+    let computed = computed_rate rate factor in
+    either p p.render_state.ended (silent (idle p time true) false) _ (silence p time true false)
+    (either p (not p.has_buffer && ne p.start_time.0 never) (silent (idle p time true) false) _ (silence p time true false)
+    (either p (le end p.start_time.0) (cond (le p.stop_time.0 end) (silent (idle p time true) false) (silent (idle p time false) (ne p.start_time.0 never))) _
+    (either p (le p.stop_time.0 end) (silent (idle p time true) false) (silent (idle p time false) (ne p.start_time.0 never)) (silence p time true false) (silence p time false _))
+    (either p (not p.has_buffer) (silent (idle p time false) false) _ (silence p time false false)
+    (either p (is_aligned n p time computed) (aligned_plan n p time computed) (sub_sample_plan n p time rate computed) (record { kept = refl }) (record { kept = refl })))))
+
+-- the player of an answer
+answers : (p : Player) (passed : Result Unit Refusal) (q : Plan) → Keeps p q
+    → moved_to p (after_block p (after_checks passed (report_of q))).player ≡ (after_block p (after_checks passed (report_of q))).player
+answers p (Ok passed) q keeps = keeps.kept
+answers p (Err first) q keeps = refl
+
+pub leaves : (p : Player) (n outLength samplesLength : ℕ) (time rate factor : Float)
+    → moved_to p (after_block p (rendered n p outLength samplesLength time rate factor)).player ≡ (after_block p (rendered n p outLength samplesLength time rate factor)).player
+unfolding rendered
+leaves p n outLength samplesLength time rate factor =
+    answers p (checked n p outLength samplesLength time rate factor) (plan n p time rate factor) (keeps n p time rate factor)
