@@ -1,3 +1,4 @@
--- The laws that the proofs of `commands` share; those of `text` cite the digits.
-pub mod OneDigit
-mod Texts
+-- The laws that the proofs of `commands` share.
+pub mod Lengths
+pub mod Hex
+pub mod Texts

@@ -1,7 +1,5 @@
 -- Numbers as digits, in bytes; a space, and a flag as a number. Definitions only.
-use Rattle.std.specs.Prelude.{Bool, ◌&&◌, cond, List, [], ◌∷◌, ◌++◌, ℕ, zero, suc, ◌+◌, ◌-◌, ◌*◌, ◌/◌, ◌%◌, ◌^◌, leb, ltb, eqb, get_or, drop}
-use Rattle.commands.specs.declared.Number.{Number}
-use Rattle.commands.specs.declared.Number.TheVariants.{Value, Nothing}
+use Rattle.std.specs.Prelude.{Bool, ◌&&◌, cond, List, [], ◌∷◌, ◌++◌, ℕ, zero, suc, ◌+◌, ◌-◌, ◌*◌, ◌/◌, ◌%◌, ◌^◌, leb, ltb, eqb, length, Option, Some, None, option_and_then}
 
 abbrev pub SPACE : ℕ
 SPACE = 32
@@ -28,17 +26,15 @@ decimal_of (suc n) v = cond (ltb v 10) (digit v ∷ []) (decimal_of n (v / 10) +
 abbrev pub decimal : ℕ → List ℕ
 decimal v = decimal_of 20 v
 
--- the value of a hex digit, upper case; 16 of any other byte
-unfoldable pub digit_value : ℕ → ℕ
-digit_value b = cond (leb 48 b && leb b 57) (b - 48) (cond (leb 65 b && leb b 70) (b - 55) 16)
+-- the value of a hex digit, upper case; any other byte has none
+unfoldable pub hex_digit : ℕ → Option ℕ
+hex_digit b = cond (leb 48 b && leb b 57) (Some (b - 48)) (cond (leb 65 b && leb b 70) (Some (b - 55)) None)
 
--- n hex digits at the start of a list, read on from v
-unfoldable pub hex_from : ℕ → ℕ → List ℕ → Number
-hex_from zero v l = Value v
-hex_from (suc n) v l =
-    let d = digit_value (get_or l 0 0) in
-    cond (eqb d 16) Nothing (hex_from n (16 * v + d) (drop 1 l))
+-- hex digits, read on from v
+unfoldable pub hex_from : ℕ → List ℕ → Option ℕ
+hex_from v [] = Some v
+hex_from v (b ∷ bs) = option_and_then (λ d. hex_from (16 * v + d) bs) (hex_digit b)
 
--- 16 hex digits from a place on
-abbrev pub hex_at : List ℕ → ℕ → Number
-hex_at l at = hex_from 16 0 (drop at l)
+-- the number that 16 hex digits are
+unfoldable pub hex_number : List ℕ → Option ℕ
+hex_number l = cond (eqb (length l) 16) (hex_from 0 l) None

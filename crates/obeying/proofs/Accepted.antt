@@ -3,20 +3,12 @@ use Rattle.std.proofs.Common.{◌≡◌, ℕ, ◌≤◌, Bool, true, false, cond
 use borrow.Author.Tests.{not-false}
 use lib.Ieee.{Float, le, ne}
 use Rattle.seconds.specs.Seconds.{never, block_end}
-use Rattle.player.specs.Block.{Plan, silent, idle, computed_rate, is_aligned, aligned_plan, sub_sample_plan, plan, bad_block_time, bad_rate, bad_samples, refusal, report_of, rendered}
+use Rattle.player.specs.Block.{Plan, silent, idle, computed_rate, is_aligned, aligned_plan, sub_sample_plan, plan, bad_block_time, bad_rate, bad_samples, checked, report_of, rendered}
 use Rattle.player.specs.declared.Player.{Player}
 use Rattle.player.specs.declared.BlockReport.{BlockReport}
-use Rattle.player.specs.declared.Rendered.TheVariants.{Block, Refused}
+use Rattle.std.specs.Prelude.{Ok}
 use Rattle.buffer.specs.Limits.{valid}
-use Rattle.buffer.specs.Refusals.{SHAPE, LENGTH, TIME, SPEED}
-
--- a refusal that is 0 has passed every test
-passes : (a b d e : Bool) → ◌≡◌ {A = ℕ} (cond (not a) LENGTH (cond b TIME (cond d SPEED (cond e SHAPE 0)))) 0 → (a ≡ true) × (e ≡ false)
-passes true false false false h = (refl, refl)
-passes true false false true h = absurd (omega arith)
-passes true false true e h = absurd (omega arith)
-passes true true d e h = absurd (omega arith)
-passes false b d e h = absurd (omega arith)
+use Rattle.buffer.proofs.Checks.{Passed, all_passed, after_passed}
 
 -- the order of a block's cases: without a buffer it is silent
 chosen : (a b d e f g : Bool) (v w x y z q r : Plan) → v.channels ≤ 32 → w.channels ≤ 32 → x.channels ≤ 32 → y.channels ≤ 32 → z.channels ≤ 32
@@ -56,25 +48,18 @@ own_samples : (p : Player) (len : ℕ) → bad_samples p len ≡ false → p.has
 unfolding bad_samples
 own_samples p len h b = (valid _ _ _ (not-false _ (rw b at h))).few
 
--- `rendered` accepts what no row of the table refuses
-block_of : (n : ℕ) (q r : BlockReport) → cond (eqb n 0) (Block q) (Refused n) ≡ Block r → (n ≡ 0) × (q ≡ r)
-block_of n q r h = go (eqb n 0) (eqb-true n 0) h
-  where
-    go : (t : Bool) → (t ≡ true → n ≡ 0) → cond t (Block q) (Refused n) ≡ Block r → (n ≡ 0) × (q ≡ r)
-    go true z e = (z refl, cc)
-    go false z e = (cc, cc)
+module _ (p : Player) (outLength samplesLength : ℕ) (time rate factor : Float) (r : BlockReport) (done : rendered 128 p outLength samplesLength time rate factor ≡ Ok r) where
+  -- `rendered` accepts what no row of the table refuses
+  accepted : (checked 128 p outLength samplesLength time rate factor ≡ Ok tt) × (report_of (plan 128 p time rate factor) ≡ r)
+  unfolding rendered
+  accepted = after_passed _ _ _ done
 
-module _ (p : Player) (outLength samplesLength : ℕ) (time rate factor : Float) (r : BlockReport) (done : rendered 128 p outLength samplesLength time rate factor ≡ Block r) where
-  tests : (eqb outLength 4096 ≡ true) × (bad_samples p samplesLength ≡ false)
-  unfolding rendered refusal
-  tests = passes (eqb outLength 4096) (bad_block_time p time) (bad_rate rate factor) (bad_samples p samplesLength) (block_of (refusal 128 p outLength samplesLength time rate factor) (report_of (plan 128 p time rate factor)) r done).0
+  tests : Passed (not (eqb outLength 4096)) (bad_block_time p time) false (bad_rate rate factor) (bad_samples p samplesLength)
+  unfolding checked
+  tests = all_passed _ _ _ _ _ accepted.0
 
   pub whole_output : outLength ≡ 4096
-  whole_output = eqb-true outLength 4096 tests.0
-
-  report : report_of (plan 128 p time rate factor) ≡ r
-  unfolding rendered
-  report = (block_of (refusal 128 p outLength samplesLength time rate factor) (report_of (plan 128 p time rate factor)) r done).1
+  whole_output = eqb-true outLength 4096 (not-false (eqb outLength 4096) tests.length)
 
   pub few_channels : r.channels ≤ 32
-  few_channels = rw (ap (λ (q : BlockReport). q.channels) report) at (plan_channels p time rate factor (own_samples p samplesLength tests.1))
+  few_channels = rw (ap (λ (q : BlockReport). q.channels) accepted.1) at (plan_channels p time rate factor (own_samples p samplesLength tests.samples))

@@ -13,11 +13,11 @@ use Rattle.rounding.proofs.Error.{RoundedAny}
 use Rattle.rounding.proofs.Exact.{whole_exact}
 use Rattle.rounding.proofs.Operations.{div_at, div_near_any}
 use Rattle.buffer.specs.Limits.{valid_rate}
-use Rattle.buffer.specs.Refusals.{TIME}
+use Rattle.buffer.specs.declared.refusals.Refusal.TheVariants as refused
 use Rattle.seconds.specs.Seconds.{none, one}
-use Rattle.player.specs.Block.{latest, bad_block_time, refusal, rendered}
+use Rattle.player.specs.Block.{latest, bad_block_time, checked, rendered}
 use Rattle.player.specs.declared.Player.{Player}
-use Rattle.player.specs.declared.Rendered.TheVariants.{Refused}
+use Rattle.std.specs.Prelude.{Err}
 use Rattle.obeying.specs.declared.Session.{Session}
 use Rattle.obeying.specs.Obeying.{most_blocks, counted, block_time, after_block, played}
 use Rattle.obeying.specs.Statement.{LateBlocks}
@@ -87,8 +87,8 @@ bad_time_lem p t h = rw h (go (not (finite t)) (lt t none) (p.has_block && le t 
     go false true d = refl
     go false false d = refl
 
-turned_down : (p : Player) (words samples : ℕ) (t : Float) → words ≡ 4096 → bad_block_time p t ≡ true → rendered 128 p words samples t one one ≡ Refused TIME
-unfolding rendered refusal
+turned_down : (p : Player) (words samples : ℕ) (t : Float) → words ≡ 4096 → bad_block_time p t ≡ true → rendered 128 p words samples t one one ≡ Err refused.Time
+unfolding rendered checked
 turned_down p words samples t whole bad = rw (whole, bad)
 
 late_time : (s : Session) → valid_rate s.player.sample_rate ≡ true → most_blocks ≤ s.number → lt latest (block_time s) ≡ true

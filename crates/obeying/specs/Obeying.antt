@@ -10,20 +10,16 @@ use Rattle.player.specs.Block.{rendered, output}
 use Rattle.player.specs.declared.Player.{Player}
 use Rattle.player.specs.declared.ControlMessage.{ControlMessage}
 use Rattle.player.specs.declared.ControlMessage.TheVariants as message
-use Rattle.player.specs.declared.Handled.{Handled}
-use Rattle.player.specs.declared.Handled.TheVariants as told
-use Rattle.player.specs.declared.Rendered.{Rendered}
-use Rattle.player.specs.declared.Rendered.TheVariants as block
+use Rattle.buffer.specs.Refusals.{number}
+use Rattle.buffer.specs.declared.refusals.Refusal.{Refusal}
+use Rattle.std.specs.Prelude.{Result, Ok, Err, Option, Some, None}
 use Rattle.commands.specs.Commands.{command}
 use Rattle.text.specs.Lines.{block_text, refusal_text, block_room}
 use Rattle.commands.specs.declared.Command.{Command}
-use Rattle.commands.specs.declared.Command.TheVariants.{Start, Stop, LoopStart, LoopEnd, Loop, Block, Unknown}
-use Rattle.text.specs.declared.Printed.{Printed}
-use Rattle.text.specs.declared.Printed.TheVariants.{Bytes, Refused}
+use Rattle.commands.specs.declared.Command.TheVariants.{Start, Stop, LoopStart, LoopEnd, Loop, Block}
 use Rattle.obeying.specs.declared.Session.{Session}
 use Rattle.obeying.specs.declared.Answer.{Answer}
-use Rattle.obeying.specs.declared.Obeyed.{Obeyed}
-use Rattle.obeying.specs.declared.Obeyed.TheVariants.{Line, NoRoom}
+use Rattle.player.specs.declared.BlockReport.{BlockReport}
 
 -- the player, and the number of the next `B` line
 abbrev pub session_of : Player → ℕ → Session
@@ -42,9 +38,9 @@ unfoldable pub refused : Session → ℕ → Reply
 refused s number = reply s (refusal_text number)
 
 -- ---- messages: 'An accepted message prints nothing'
-unfoldable pub after_message : Session → Handled → Reply
-after_message s (told.Done p) = reply (session_of p s.number) []
-after_message s (told.Refused number) = refused s number
+unfoldable pub after_message : Session → Result Player Refusal → Reply
+after_message s (Ok p) = reply (session_of p s.number) []
+after_message s (Err turned_down) = refused s (number turned_down)
 
 unfoldable pub sent : Session → ControlMessage → Reply
 sent s m = after_message s (handled s.player m)
@@ -70,10 +66,10 @@ unfoldable pub block_time : Session → Float
 block_time s = div binary64 (whole (128 * counted s.number)) s.player.sample_rate
 
 -- an accepted block is printed; the number goes up in any case
-unfoldable pub after_block : Session → List ℕ → Rendered → Reply
-after_block s words (block.Block r) =
+unfoldable pub after_block : Session → List ℕ → Result BlockReport Refusal → Reply
+after_block s words (Ok r) =
     reply (session_of r.player (next_number s.number)) (block_text s.number r.keep_alive r.ended r.channels words)
-after_block s words (block.Refused number) = refused (session_of s.player (next_number s.number)) number
+after_block s words (Err turned_down) = refused (session_of s.player (next_number s.number)) (number turned_down)
 
 -- 'with rate and factor 1': the block output after the line, and the reply
 unfoldable pub played_words : List ℕ → Session → List ℕ → List ℕ
@@ -90,14 +86,14 @@ pub record Outcome : Type 0 where
 abbrev pub outcome : Reply → List ℕ → Outcome
 outcome r words = record { reply = r; words = words }
 
-unfoldable pub done : List ℕ → Session → List ℕ → Command → Outcome
-done samples s words (Start when offset duration) = outcome (sent s (message.Start (seconds when) (seconds offset) (seconds duration))) words
-done samples s words (Stop when) = outcome (sent s (message.Stop (seconds when))) words
-done samples s words (LoopStart at) = outcome (sent s (message.LoopStart (seconds at))) words
-done samples s words (LoopEnd at) = outcome (sent s (message.LoopEnd (seconds at))) words
-done samples s words (Loop on) = outcome (sent s (message.Loop on)) words
-done samples s words Block = outcome (played samples s words) (played_words samples s words)
-done samples s words Unknown = outcome (refused s 0) words
+unfoldable pub done : List ℕ → Session → List ℕ → Option Command → Outcome
+done samples s words (Some (Start when offset duration)) = outcome (sent s (message.Start (seconds when) (seconds offset) (seconds duration))) words
+done samples s words (Some (Stop when)) = outcome (sent s (message.Stop (seconds when))) words
+done samples s words (Some (LoopStart at)) = outcome (sent s (message.LoopStart (seconds at))) words
+done samples s words (Some (LoopEnd at)) = outcome (sent s (message.LoopEnd (seconds at))) words
+done samples s words (Some (Loop on)) = outcome (sent s (message.Loop on)) words
+done samples s words (Some Block) = outcome (played samples s words) (played_words samples s words)
+done samples s words None = outcome (refused s 0) words
 
 unfoldable pub obeyed : List ℕ → Session → List ℕ → List ℕ → Outcome
 obeyed samples s words line = done samples s words (command line)
@@ -109,8 +105,8 @@ has_room out = nat_le block_room (length out)
 abbrev pub answer_of : Reply → Answer
 answer_of r = record { session = r.session; printed = length r.text }
 
-unfoldable pub answered : Bool → Outcome → Obeyed
-answered room o = cond room (Line (answer_of o.reply)) NoRoom
+unfoldable pub answered : Bool → Outcome → Option Answer
+answered room o = cond room (Some (answer_of o.reply)) None
 
 unfoldable pub words_after : Bool → Outcome → List ℕ → List ℕ
 words_after room o words = cond room o.words words
@@ -119,11 +115,6 @@ unfoldable pub out_after : Bool → Outcome → List ℕ → List ℕ
 out_after room o out = cond room (sets out 0 o.reply.text) out
 
 -- a caller writes so many bytes: never more than the slice has
-abbrev pub written : Obeyed → ℕ
-written (Line a) = a.printed
-written NoRoom = 0
-
--- how many bytes a printing call put there
-unfoldable pub bytes_of : Printed → ℕ
-bytes_of (Bytes n) = n
-bytes_of Refused = 0
+abbrev pub written : Option Answer → ℕ
+written (Some a) = a.printed
+written None = 0

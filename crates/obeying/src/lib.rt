@@ -3,15 +3,14 @@
 
 ghost use Rattle.std.specs.Prelude.{◌≡◌, ◌≤◌, length};
 ghost use Rattle.std.proofs.lemmas.List.Edits.{sets};
-ghost use Rattle.text.specs.Lines.{block_room};
 ghost use Rattle.obeying.specs.Obeying.{refused, sent, counted, block_time, played_words, played, obeyed};
-ghost use Rattle.obeying.specs.Obeying.{has_room, answer_of, answered, words_after, out_after, written, bytes_of};
+ghost use Rattle.obeying.specs.Obeying.{has_room, answer_of, answered, words_after, out_after, written};
 ghost use Rattle.obeying.specs.Statement.{LateBlocks};
 
 use commands::Command;
-use player::{ControlMessage, Handled, Player, Rendered};
-use rounding::{from_pattern_f64, whole};
-use text::{BLOCK_ROOM, Printed};
+use player::{ControlMessage, Player};
+use rounding::{BinaryFloat, whole};
+use text::BLOCK_ROOM;
 
 // The player, and the number of the next `B` line.
 #[derive(Clone, Copy)]
@@ -27,43 +26,24 @@ pub struct Answer {
     pub printed: usize,
 }
 
-// A line is obeyed only where any block's text has room in the output.
-#[derive(Drop)]
-pub enum Obeyed {
-    Line(Answer),
-    NoRoom,
-}
-
 // The most `B` lines that are counted.
 const MOST_BLOCKS: usize = 35_184_372_088_832;
 
-// The bytes that were printed.
-fn bytes_of(p: Printed) -> usize
-    ensures { result ≡ bytes_of p }
-{
-    match p {
-        Printed::Bytes(n) => n,
-        Printed::Refused => 0,
-    }
-}
-
 // Prints a refusal.
-fn refuse(session: Session, number: u32, out: &mut [u8]) -> Answer
-    requires { block_room ≤ length out.old }
+fn refuse(session: Session, number: u32, out: &mut [u8; BLOCK_ROOM]) -> Answer
     ensures { (result ≡ answer_of (refused session number)) × (out.new ≡ sets out.old 0 (refused session number).text) }
 {
-    let printed = bytes_of(text::refusal_text(number, out));
+    let printed = text::refusal_text(number, out).unwrap_or(0);
     Answer { session, printed }
 }
 
 // Sends a control message.
-fn tell(mut session: Session, message: ControlMessage, out: &mut [u8]) -> Answer
-    requires { block_room ≤ length out.old }
+fn tell(mut session: Session, message: ControlMessage, out: &mut [u8; BLOCK_ROOM]) -> Answer
     ensures { (result ≡ answer_of (sent session message)) × (out.new ≡ sets out.old 0 (sent session message).text) }
 {
     match session.player.handle_control_message(message) {
-        Handled::Done(next) => session.player = next,
-        Handled::Refused(number) => return refuse(session, number, out),
+        Ok(next) => session.player = next,
+        Err(refusal) => return refuse(session, refusal.number(), out),
     }
     Answer {
         session,
@@ -74,11 +54,7 @@ fn tell(mut session: Session, message: ControlMessage, out: &mut [u8]) -> Answer
 fn counted(number: usize) -> usize
     ensures { result ≡ counted number }
 {
-    if number < MOST_BLOCKS {
-        number
-    } else {
-        MOST_BLOCKS
-    }
+    number.min(MOST_BLOCKS)
 }
 
 // The time of the next block.
@@ -90,8 +66,12 @@ fn block_time(session: Session) -> f64
 }
 
 // Renders a block into `words`, and prints it.
-fn play(mut session: Session, samples: &[u32], words: &mut [u32], out: &mut [u8]) -> Answer
-    requires { block_room ≤ length out.old }
+fn play(
+    mut session: Session,
+    samples: &[u32],
+    words: &mut [u32],
+    out: &mut [u8; BLOCK_ROOM],
+) -> Answer
     ensures { let reply = played samples.now session words.old in
         (result ≡ answer_of reply) × (words.new ≡ played_words samples.now session words.old)
         × (out.new ≡ sets out.old 0 reply.text) }
@@ -99,21 +79,20 @@ fn play(mut session: Session, samples: &[u32], words: &mut [u32], out: &mut [u8]
     let number = session.number;
     let time = block_time(session);
     session.number = counted(number) + 1;
-    let printed = match session.player.process(words, samples, time, 1.0, 1.0) {
-        Rendered::Block(report) => {
-            let left = report.player;
-            session.player = left;
-            bytes_of(text::block_text(
-                number,
-                report.keep_alive,
-                report.ended,
-                report.channels,
-                words,
-                out,
-            ))
-        }
-        Rendered::Refused(refusal) => return refuse(session, refusal, out),
+    let report = match session.player.process(words, samples, time, 1.0, 1.0) {
+        Ok(report) => report,
+        Err(refusal) => return refuse(session, refusal.number(), out),
     };
+    session.player = report.player;
+    let text = text::block_text(
+        number,
+        report.keep_alive,
+        report.ended,
+        report.channels,
+        words,
+        out,
+    );
+    let printed = text.unwrap_or(0);
     Answer { session, printed }
 }
 
@@ -123,48 +102,48 @@ fn obey_line(
     line: &[u8],
     samples: &[u32],
     words: &mut [u32],
-    out: &mut [u8],
+    out: &mut [u8; BLOCK_ROOM],
 ) -> Answer
-    requires { block_room ≤ length out.old }
     ensures { let o = obeyed samples.now session words.old line.now in
         (result ≡ answer_of o.reply) × (words.new ≡ o.words) × (out.new ≡ sets out.old 0 o.reply.text) }
 {
-    let message = match commands::read_command(line) {
+    let Some(command) = commands::read_command(line) else {
+        return refuse(session, 0, out);
+    };
+    let message = match command {
         Command::Start(when, offset, duration) => {
             ControlMessage::Start(
-                from_pattern_f64(when),
-                from_pattern_f64(offset),
-                from_pattern_f64(duration),
+                f64::from_pattern(when),
+                f64::from_pattern(offset),
+                f64::from_pattern(duration),
             )
         }
-        Command::Stop(when) => ControlMessage::Stop(from_pattern_f64(when)),
-        Command::LoopStart(at) => ControlMessage::LoopStart(from_pattern_f64(at)),
-        Command::LoopEnd(at) => ControlMessage::LoopEnd(from_pattern_f64(at)),
+        Command::Stop(when) => ControlMessage::Stop(f64::from_pattern(when)),
+        Command::LoopStart(at) => ControlMessage::LoopStart(f64::from_pattern(at)),
+        Command::LoopEnd(at) => ControlMessage::LoopEnd(f64::from_pattern(at)),
         Command::Loop(on) => ControlMessage::Loop(on),
         Command::Block => return play(session, samples, words, out),
-        Command::Unknown => return refuse(session, 0, out),
     };
     tell(session, message, out)
 }
 
-// Obeys a line: `samples` are the clip's, `words` takes the block, and `out` what is printed.
+// Obeys a line: `samples` are the clip's, `words` takes the block, and `out` what is printed. None
+// where any block's text might lack room in the output, and then nothing is done.
 pub fn obey(
     session: Session,
     line: &[u8],
     samples: &[u32],
     words: &mut [u32],
     out: &mut [u8],
-) -> Obeyed
+) -> Option<Answer>
     ensures fact { let o = obeyed samples.now session words.old line.now in
         let room = has_room out.old in
         (result ≡ answered room o) × (words.new ≡ words_after room o words.old)
         × (out.new ≡ out_after room o out.old) }
     ensures result_in_bounds { written result ≤ length out.old }
 {
-    if out.len() < BLOCK_ROOM {
-        return Obeyed::NoRoom;
-    }
-    Obeyed::Line(obey_line(session, line, samples, words, out))
+    let out = out.first_chunk_mut()?;
+    Some(obey_line(session, line, samples, words, out))
 }
 
 // A block past the last number that is counted is refused with 13 at every allowed rate.

@@ -5,19 +5,18 @@ use mathlib.Core.List.{List, [], ◌∷◌, ◌++◌}
 use Prim.Native.Nat.{ℕ, ◌+◌, ◌-◌, ◌≤◌, ◌<◌, min}
 use native.Mathlib.Numerals.{add-one}
 use native.Mathlib.Omega.{arith}
-use borrow.Author.Tests.{ltb-true, ltb-false, leb-true, leb-false, le-leb, lt-leb, eq-eqb, ne_eqb}
+use borrow.Author.Tests.{ltb-false, leb-true, leb-false, le-leb, lt-leb, le-ltb, eq-eqb, ne_eqb}
 use lib.Dec.{leb, ltb, eqb}
 use lib.ListN.{length, get_or, take, drop, set, length-append, length-take, length-drop, drop_of_length-le}
 use lib.Seq.{sets, length-sets, length-take-le, take_all, take-length, drop-cons}
 use Rattle.text.specs.Lines.{NEWLINE, block_room}
-use Rattle.text.proofs.Stores.{sets_append, part_back}
+use Rattle.session.proofs.Stores.{sets_append, part_back}
 use Rattle.obeying.specs.declared.Session.{Session}
 use Rattle.obeying.specs.declared.Answer.{Answer}
 use Rattle.session.specs.declared.State.{State}
 use Rattle.session.specs.declared.Taken.{Taken}
 use Rattle.session.specs.declared.Fed.{Fed}
-use Rattle.obeying.specs.declared.Obeyed.{Obeyed}
-use Rattle.obeying.specs.declared.Obeyed.TheVariants.{Line, NoRoom}
+use Rattle.std.specs.Prelude.{Option, Some, None}
 use Rattle.obeying.specs.Obeying.{reply, Outcome, outcome, obeyed, has_room, answer_of, answered, words_after, out_after}
 use Rattle.session.specs.Feeding.{Run, run_of, line_obeyed, ended, lengthened, extended, stepped, said, Progress, progress, advanced, feeding, goes_on, fed, finished, taken_of, fed_of}
 use Rattle.obeying.proofs.Lengths.{obeyed_fits}
@@ -57,25 +56,25 @@ abbrev taken_by : Session → ℕ → ℕ → Taken
 taken_by s len printed = record { state = record { session = s; len = len }; printed = printed }
 
 -- what a line is answered where a block's text has room
-module _ (samples : List ℕ) (r : Run) (n : ℕ) (out words after : List ℕ) (x : Obeyed) (room : block_room ≤ length out)
+module _ (samples : List ℕ) (r : Run) (n : ℕ) (out words after : List ℕ) (x : Option Answer) (room : block_room ≤ length out)
     (says : let o = obeyed samples r.session r.words (take n r.line) in
     (x ≡ answered (has_room out) o) × (words ≡ words_after (has_room out) o r.words) × (after ≡ out_after (has_room out) o out)) where
   abbrev o : Outcome
   o = obeyed samples r.session r.words (take n r.line)
 
-  with_room : (x ≡ Line (answer_of o.reply)) × (words ≡ o.words) × (after ≡ sets out 0 o.reply.text)
+  with_room : (x ≡ Some (answer_of o.reply)) × (words ≡ o.words) × (after ≡ sets out 0 o.reply.text)
   unfolding answered words_after out_after
   with_room = rw (le-leb block_room (length out) room) at says
 
-  pub line_answered : (a : Answer) → x ≡ Line a → (a ≡ answer_of o.reply) × (words ≡ o.words) × (after ≡ sets out 0 o.reply.text)
+  pub line_answered : (a : Answer) → x ≡ Some a → (a ≡ answer_of o.reply) × (words ≡ o.words) × (after ≡ sets out 0 o.reply.text)
   line_answered a is =
       let all = with_room in
-      let e : Line a ≡ Line (answer_of o.reply) = sym is ∙ all.0 in
+      let e : Some a ≡ Some (answer_of o.reply) = sym is ∙ all.0 in
       (cc, all.1, all.2)
 
-  pub never_without : {A : Type 0} → x ≡ NoRoom → A
+  pub never_without : {A : Type 0} → x ≡ None → A
   never_without is =
-      let e : NoRoom ≡ Line (answer_of o.reply) = sym is ∙ with_room.0 in
+      let e : None ≡ Some (answer_of o.reply) = sym is ∙ with_room.0 in
       absurd (true≢false cc)
 
 pub newline_taken : (samples : List ℕ) (r : Run) (b n : ℕ) (a : Answer) (words out after : List ℕ) → b ≡ NEWLINE → n ≡ min r.len (length r.line)
@@ -114,16 +113,18 @@ line_left samples r n some most =
 abbrev fed_by : State → ℕ → ℕ → Fed
 fed_by state taken printed = record { state = state; taken = taken; printed = printed }
 
--- ---- the test of the loop
-both : (a b : Bool) → (a && b) ≡ true → (a ≡ true) × (b ≡ true)
-both true b h = (refl, h)
-both false b h = (cc, cc)
-
-pub goes_on_lem : (t : Bool) (taken input printed room : ℕ) → t ≡ goes_on taken input printed room → t ≡ true → (taken < input) × (printed + block_room ≤ room)
+-- ---- why the loop ends: no byte is left, or a block's text might lack room
+pub no_byte : (taken input printed room : ℕ) → input ≤ taken → goes_on taken input printed room ≡ false
 unfolding goes_on
-goes_on_lem t taken input printed room test is =
-    let e = both _ _ (sym test ∙ is) in
-    (ltb-true taken input e.0, leb-true (printed + block_room) room e.1)
+no_byte taken input printed room none = rw (le-ltb taken input none) refl
+
+pub no_room : (taken input printed room : ℕ) → printed ≤ room → room - printed < block_room → goes_on taken input printed room ≡ false
+unfolding goes_on
+no_room taken input printed room within less = rw (lt-leb (printed + block_room) room (omega arith)) (go (ltb taken input))
+  where
+    go : (t : Bool) → (t && false) ≡ false
+    go true = refl
+    go false = refl
 
 -- what a byte prints fits behind what was printed
 pub step_fits : (samples : List ℕ) (r : Run) (b printed room : ℕ) (step : Taken) → step ≡ taken_of samples r b → printed + block_room ≤ room → printed + step.printed ≤ room
@@ -200,3 +201,11 @@ module _ (samples input out₀ : List ℕ) (start : Run) where
       let stops : goes_on taken (length input) (length at.text) (length out₀) ≡ false = ap (λ k. goes_on taken (length input) k (length out₀)) (sym at.count) ∙ ap (goes_on taken (length input) printed) (sym (reached_length line words out state taken printed at)) ∙ sym test ∙ ends in
       let e : f ≡ fed samples (length out₀) start input = sym (feeding_stops f taken stops) ∙ at.same in
       (ap (fed_by state taken) at.count ∙ ap fed_of e, ap (λ (q : Progress). q.run.line) e, ap (λ (q : Progress). q.run.words) e, at.stored ∙ ap (λ (q : Progress). sets out₀ 0 q.text) e)
+
+  -- the same once all bytes are taken
+  pub reached_all : (line words out : List ℕ) (state : State) (taken printed : ℕ) → Reached line words out state taken printed → taken ≡ length input
+      → (fed_by state (length input) printed ≡ fed_of (fed samples (length out₀) start input)) × (line ≡ (fed samples (length out₀) start input).run.line)
+      × (words ≡ (fed samples (length out₀) start input).run.words) × (out ≡ sets out₀ 0 (fed samples (length out₀) start input).text)
+  reached_all line words out state taken printed at all =
+      let whole : Reached line words out state (length input) printed = rw all at at in
+      reached_end line words out state (length input) printed _ whole refl (no_byte (length input) (length input) printed (length out) (omega arith))

@@ -12,7 +12,13 @@ use lib.ListN.{length, take, drop, set, length-append, length-drop, length-set, 
 use lib.Seq.{take_all, take-nil, take-append-le, take-suc-set, set_out, length-take-le}
 use Rattle.commands.specs.Commands.{command}
 use Rattle.text.specs.Lines.{NEWLINE, block_room}
-use Rattle.commands.specs.declared.Command.TheVariants.{Unknown}
+use Rattle.commands.specs.declared.Command.{Command}
+use Rattle.commands.specs.declared.Command.TheVariants.{Start, Stop, LoopStart, LoopEnd, Loop, Block}
+use Rattle.commands.specs.Statement.{line_of}
+use Rattle.commands.proofs.Lengths.{length_hex}
+use Rattle.commands.proofs.Texts.{lines_are_texts}
+use Rattle.std.specs.Prelude.{None}
+use mathlib.Core.Logic.{inl, inr}
 use Rattle.obeying.specs.declared.Session.{Session}
 use Rattle.session.specs.declared.Fed.{Fed}
 use Rattle.obeying.specs.Obeying.{Outcome, obeyed}
@@ -21,10 +27,22 @@ use Rattle.session.specs.Transcript.{lines_from, texts}
 use Rattle.session.specs.Statement.{Call, left, bytes, printed, long_enough, AnyCalls, calls_for, calls_of, joined, WholeInput}
 use Rattle.session.proofs.Bytes.{said_fits}
 
--- ---- a line that is longer than any command is unknown, and so is its front
-long_unknown : (l : List ℕ) → long_enough ≤ length l → command l ≡ Unknown
-unfolding command
-long_unknown l h = simp (ne_eqb (length l) 1 (λ e. omega arith), ne_eqb (length l) 3 (λ e. omega arith), ne_eqb (length l) 18 (λ e. omega arith), ne_eqb (length l) 52 (λ e. omega arith))
+-- ---- a line that is longer than any command's text is none, and so is its front
+text_length : (k : Command) → length (line_of k) ≤ 52
+unfolding line_of
+text_length (Start x y z) = simp (length-append, length_hex) (omega arith)
+text_length (Stop x) = simp length_hex (omega arith)
+text_length (LoopStart x) = simp length_hex (omega arith)
+text_length (LoopEnd x) = simp length_hex (omega arith)
+text_length (Loop on) = omega arith
+text_length Block = omega arith
+
+long_unknown : (l : List ℕ) → long_enough ≤ length l → command l ≡ None
+long_unknown l h =
+    elim (lines_are_texts l) [
+      | inl e ↦ e
+      | inr (k, read, bits, is) ↦ absurd (omega (arith, ap length is, text_length k))
+    ]
 
 cut_command : (n : ℕ) (l : List ℕ) → long_enough ≤ n → command (take n l) ≡ command l
 cut_command n l h = go (leb (length l) n) (leb-true (length l) n) (leb-false (length l) n)

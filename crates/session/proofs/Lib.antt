@@ -1,3 +1,4 @@
 -- The laws that the proofs of `session` share.
+mod Stores
 mod Bytes
 mod Chunks

@@ -1,22 +1,15 @@
 // The bytes of the input, one after another.
-ghost use Rattle.std.specs.Prelude.{◌≡◌, ◌≤◌, min, length, set};
+ghost use Rattle.std.specs.Prelude.{◌≡◌, ◌≤◌, length, set};
 ghost use Rattle.std.proofs.lemmas.List.Edits.{sets};
 ghost use Rattle.text.specs.Lines.{block_room};
 ghost use Rattle.obeying.specs.Obeying.{has_room, answered, words_after, out_after, written};
-ghost use Rattle.session.specs.Feeding.{run_of, lengthened, stepped, said, goes_on, fed, finished, taken_of, fed_of, Moves};
+ghost use Rattle.session.specs.Feeding.{run_of, lengthened, stepped, said, fed, finished, taken_of, fed_of, Moves};
 
 use super::{Fed, State, Taken};
-use obeying::{Answer, Obeyed, obey};
+use obeying::{Answer, obey};
 use text::BLOCK_ROOM;
 
 const NEWLINE: u8 = 10;
-
-// How much of a line of `len` bytes a slice of `most` bytes holds.
-fn within(len: usize, most: usize) -> usize
-    ensures { result ≡ min len most }
-{
-    if len < most { len } else { most }
-}
 
 // Puts a byte behind the `len` bytes of the line so far, and returns the length then. Bytes past the
 // end of `line` are left out: it is longer than any command.
@@ -48,8 +41,8 @@ fn take_byte(
     let session = state.session;
     let len = state.len;
     if b == NEWLINE {
-        let n = within(len, line.len());
-        let Obeyed::Line(answer) = obey(session, &line[..n], samples, words, out) else {
+        let n = len.min(line.len());
+        let Some(answer) = obey(session, &line[..n], samples, words, out) else {
             return Taken { state, printed: 0 };
         };
         let next = answer.session;
@@ -70,19 +63,9 @@ fn take_byte(
     }
 }
 
-// Whether a byte is left, and a block's text has room behind what was printed.
-fn goes_on(taken: usize, input: usize, printed: usize, room: usize) -> bool
-    requires { printed ≤ room }
-    ensures { result ≡ goes_on taken input printed room }
-{
-    if taken < input {
-        return BLOCK_ROOM <= room - printed;
-    }
-    false
-}
-
 // Takes the bytes of `input` until they are used up or `out` lacks room: `line` holds the line so
-// far, `samples` are the clip's, `words` takes the blocks, and `out` what is printed.
+// far, `samples` are the clip's, `words` takes the blocks, and `out` what is printed. In one struct of
+// lent slices each contract would have to say that the others stay.
 pub fn feed(
     start: State,
     input: &[u8],
@@ -98,37 +81,36 @@ pub fn feed(
     ensures moves { Moves (length input.now) (length out.old) result }
 {
     let mut state = start;
-    let mut taken = 0;
     let mut printed = 0;
-    while goes_on(taken, input.len(), printed, out.len()) {
-        let step = take_byte(
-            state,
-            input[taken],
-            line,
-            samples,
-            words,
-            &mut out[printed..],
-        );
+    for (taken, b) in input.iter().enumerate() {
+        if out.len() - printed < BLOCK_ROOM {
+            return Fed {
+                state,
+                taken,
+                printed,
+            };
+        }
+        let step = take_byte(state, *b, line, samples, words, &mut out[printed..]);
         let next = step.state;
         state = next;
         printed += step.printed;
-        taken += 1;
     }
     Fed {
         state,
-        taken,
+        taken: input.len(),
         printed,
     }
 }
 
-// Obeys a last line that lacks its newline.
+// Obeys a last line that lacks its newline. None where any block's text might lack room in the
+// output, and then nothing is done.
 pub fn finish(
     state: State,
     line: &[u8],
     samples: &[u32],
     words: &mut [u32],
     out: &mut [u8],
-) -> Obeyed
+) -> Option<Answer>
     ensures fact { let o = finished samples.now (run_of state line.now words.old) in
         let room = has_room out.old in
         (result ≡ answered room o) × (words.new ≡ words_after room o words.old)
@@ -136,16 +118,16 @@ pub fn finish(
     ensures result_in_bounds { written result ≤ length out.old }
 {
     if out.len() < BLOCK_ROOM {
-        return Obeyed::NoRoom;
+        return None;
     }
     let session = state.session;
     let len = state.len;
     if len == 0 {
-        return Obeyed::Line(Answer {
+        return Some(Answer {
             session,
             printed: 0,
         });
     }
-    let n = within(len, line.len());
+    let n = len.min(line.len());
     obey(session, &line[..n], samples, words, out)
 }

@@ -9,7 +9,9 @@ ghost use Rattle.session.specs.Statement.{TranscriptOfChunks};
 pub use feeding::{feed, finish};
 use obeying::Session;
 
-// What is carried from byte to byte of the input: the session, and the length of the line so far.
+// What is carried from byte to byte of the input: the session, and the length of the line so far. The
+// line's bytes stand in a slice of any length that the caller lends: a buffer of its own would promise
+// less.
 #[derive(Drop)]
 pub struct State {
     pub session: Session,

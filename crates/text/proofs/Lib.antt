@@ -1,3 +1,4 @@
 -- The laws that the proofs of `text` share.
-pub mod Stores
+pub mod Texts
 pub mod Runs
+pub mod Lengths

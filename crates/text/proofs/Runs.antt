@@ -1,124 +1,103 @@
--- Runs of equal words, and the lengths of lines. Assumes nothing.
-use mathlib.Core.Path.{◌≡◌, refl, ap, sym, ◌∙◌}
-use mathlib.Core.Bool.{Bool, true, false, cond}
-use mathlib.Core.List.{List, [], ◌∷◌, ◌++◌, append-nil}
-use Prim.Native.Nat.{ℕ, zero, suc, ◌+◌, ◌-◌, ◌*◌, ◌≤◌, ◌<◌}
-use native.Mathlib.Nat.{add-zero, not-suc-le-zero}
-use native.Mathlib.Numerals.{add-one}
-use native.Mathlib.Omega.{arith}
-use borrow.Author.Tests.{eq-eqb, ne_eqb}
-use lib.Dec.{eqb}
-use lib.ListN.{length, get_or, take, drop, length-append, length-drop, drop_of_length-le}
-use lib.Seq.{drop-cons, drop-drop}
-use Rattle.commands.specs.Digits.{flag}
-use Rattle.text.specs.Same.{same}
-use Rattle.text.specs.Lines.{field, run_line, runs_from, runs, channel_lines, block_line}
-use Rattle.commands.proofs.OneDigit.{length_hex, length_decimal}
+-- Runs of equal words.
+use Rattle.std.proofs.Common.{◌≡◌, refl, ap, sym, subst, ◌∙◌, List, [], ◌∷◌, ◌++◌, append-nil, true, false, ℕ, zero, suc, ◌+◌, ◌-◌, ◌≤◌, ◌<◌, eqb, length, length-append, get_or, take, drop, min, arith, add-zero, add-one, not-suc-le-zero}
+use Rattle.std.proofs.Math.Seq.{take-append_seam, drop-append_seam, take_all}
+use Rattle.std.proofs.Math.ListN.{drop_of_length-le}
+use Rattle.std.specs.List.{AllAdjacentBelow, IsChunkByPrefix}
+use Rattle.std.proofs.lemmas.Bool.{eq-eqb, ne_eqb, eqb-true, eqb-false}
+use Rattle.std.proofs.lemmas.List.{get_or_at}
+use Rattle.text.specs.Lines.{run_line, runs_from, runs, channel_lines}
 
--- ---- lengths
-pub length_field_lem : (v after : ℕ) → length (field v after) ≤ 21
-unfolding field
-length_field_lem v after = simp length-append (omega (arith, length_decimal 20 v))
+-- all are x
+pub Same : ℕ → List ℕ → Type 0
+Same x [] = Unit {0}
+Same x (y ∷ ys) = (y ≡ x) × Same x ys
 
-pub length_run : (c f n x : ℕ) → length (run_line c f n x) ≤ 72
-unfolding run_line
-length_run c f n x = simp (length-append, length_hex) (omega (arith, length_field_lem c 32, length_field_lem f 32, length_field_lem n 32))
+-- another word comes next, if any
+pub Differs : ℕ → List ℕ → Type 0
+Differs x [] = Unit {0}
+Differs x (y ∷ ys) = y ≡ x → ⊥
 
-length_runs_from : (c f n x : ℕ) (xs : List ℕ) → length (runs_from c f n x xs) ≤ 72 * (1 + length xs)
-unfolding runs_from
-length_runs_from c f n x [] = length_run c f n x
-length_runs_from c f n x (y ∷ ys) = go (eqb y x) (length_runs_from c f (n + 1) x ys) (length_runs_from c (f + n) 1 y ys)
-  where
-    go : (t : Bool) → length (runs_from c f (n + 1) x ys) ≤ 72 * (1 + length ys) → length (runs_from c (f + n) 1 y ys) ≤ 72 * (1 + length ys)
-        → length (cond t (runs_from c f (n + 1) x ys) (run_line c f n x ++ runs_from c (f + n) 1 y ys)) ≤ 72 * (1 + suc (length ys))
-    go true h k = omega arith
-    go false h k = simp length-append (omega (arith, length_run c f n x))
+run_whole : (c f n x : ℕ) (xs rest : List ℕ) → Same x xs → Differs x rest
+    → runs_from c f n x (xs ++ rest) ≡ run_line c f (n + length xs) x ++ runs c (f + (n + length xs)) rest
+unfolding runs_from runs Same Differs
+run_whole c f n x [] [] h d = rw (add-zero n) (sym (append-nil (run_line c f n x)))
+run_whole c f n x [] (y ∷ ys) h d = rw (add-zero n, ne_eqb y x d)
+run_whole c f n x (y ∷ ys) rest h d =
+    let e : n + 1 + length ys ≡ n + suc (length ys) = omega arith in
+    rw (eq-eqb y x h.0) (run_whole c f (n + 1) x ys rest h.1 d ∙ ap (λ k. run_line c f k x ++ runs c (f + k) rest) e)
 
-pub length_runs : (c f : ℕ) (l : List ℕ) → length (runs c f l) ≤ 72 * length l
+run_more : (c f x : ℕ) (xs rest : List ℕ) → Same x xs → Differs x rest
+    → runs c f ((x ∷ xs) ++ rest) ≡ run_line c f (suc (length xs)) x ++ runs c (f + suc (length xs)) rest
 unfolding runs
-length_runs c f [] = omega arith
-length_runs c f (x ∷ xs) = omega (arith, length_runs_from c f 1 x xs)
+run_more c f x xs rest h d =
+    let e : 1 + length xs ≡ suc (length xs) = omega arith in
+    run_whole c f 1 x xs rest h d ∙ ap (λ k. run_line c f k x ++ runs c (f + k) rest) e
 
--- ---- equal words
-same_le : (x : ℕ) (l : List ℕ) → same x l ≤ length l
-unfolding same
-same_le x [] = omega arith
-same_le x (y ∷ ys) = go (eqb y x) (same_le x ys)
-  where
-    go : (t : Bool) → same x ys ≤ length ys → cond t (suc (same x ys)) 0 ≤ suc (length ys)
-    go true h = omega arith
-    go false h = omega arith
+-- a chunk of words of which each equals the next, and the last one not
+same_from : (x : ℕ) (xs rest : List ℕ) → AllAdjacentBelow (λ a b. eqb a b ≡ true) (x ∷ (xs ++ rest)) (suc (length xs)) → Same x xs
+unfolding Same
+same_from x [] rest h = tt
+same_from x (y ∷ ys) rest h =
+    let e : y ≡ x = sym (eqb-true x y (h 0 0 (omega arith))) in
+    let next : (k : ℕ) → suc k + 1 ≡ suc (k + 1) = λ k. omega arith in
+    let tail : AllAdjacentBelow (λ a b. eqb a b ≡ true) (y ∷ (ys ++ rest)) (suc (length ys)) =
+    λ k d low. subst (λ m. eqb (get_or (y ∷ (ys ++ rest)) k d) (get_or (x ∷ (y ∷ (ys ++ rest))) m d) ≡ true) (next k) (h (suc k) d (omega arith)) in
+    (e, subst (λ a. Same a ys) e (same_from y ys rest tail))
 
-module _ (words : List ℕ) (i : ℕ) where
-  pub same_more : (x : ℕ) → i < length words → get_or words i 0 ≡ x → same x (drop i words) ≡ suc (same x (drop (i + 1) words))
-  unfolding same
-  same_more x h e = rw (drop-cons words i 0 h, eq-eqb _ _ e, add-one i)
+last_same : (x d : ℕ) (xs rest : List ℕ) → Same x xs → get_or (x ∷ (xs ++ rest)) (length xs) d ≡ x
+unfolding Same
+last_same x d [] rest h = refl
+last_same x d (y ∷ ys) rest h = rw (← h.0) (last_same y d ys rest (rw h.0 h.1))
 
-  pub same_stop : (x : ℕ) → i < length words → (get_or words i 0 ≡ x → ⊥) → same x (drop i words) ≡ 0
-  unfolding same
-  same_stop x h e = rw (drop-cons words i 0 h, ne_eqb _ _ e)
+differs_from : (x : ℕ) (xs rest : List ℕ) → Same x xs
+    → (suc (length xs) < length (x ∷ (xs ++ rest)) → (d : ℕ) → eqb (get_or (x ∷ (xs ++ rest)) (length xs) d) (get_or (x ∷ (xs ++ rest)) (suc (length xs)) d) ≡ false) → Differs x rest
+unfolding Differs
+differs_from x xs [] h e = tt
+differs_from x xs (y ∷ ys) h e =
+    let k : eqb x y ≡ false =
+    ap (λ a. eqb a y) (sym (last_same x 0 xs (y ∷ ys) h))
+    ∙ ap (λ b. eqb (get_or (x ∷ (xs ++ (y ∷ ys))) (length xs) 0) b) (sym (get_or_at xs y ys 0 (length xs) refl))
+    ∙ e (simp length-append (omega arith)) 0 in
+    λ same. eqb-false x y k (sym same)
 
-  pub same_end : (x : ℕ) → length words ≤ i → same x (drop i words) ≡ 0
-  unfolding same
-  same_end x h = rw (drop_of_length-le words {i = i} h)
+-- a turn of the loop over the chunks
+pub runs_turn : (c f : ℕ) (words chunk rest : List ℕ) → words ≡ chunk ++ rest → 0 < length chunk → IsChunkByPrefix eqb words (length chunk)
+    → runs c f words ≡ run_line c f (length chunk) (get_or chunk 0 0) ++ runs c (f + length chunk) rest
+runs_turn c f words [] rest is some h = absurd (not-suc-le-zero some)
+runs_turn c f words (x ∷ xs) rest is some h =
+    let g : IsChunkByPrefix eqb (x ∷ (xs ++ rest)) (suc (length xs)) = subst (λ (w : List ℕ). IsChunkByPrefix eqb w (suc (length xs))) is h in
+    let same = same_from x xs rest g.0 in
+    let last : length xs ≡ suc (length xs) - 1 = omega arith in
+    let other = differs_from x xs rest same (λ low d. ap (λ k. eqb (get_or (x ∷ (xs ++ rest)) k d) (get_or (x ∷ (xs ++ rest)) (suc (length xs)) d)) last ∙ g.1 low d) in
+    ap (runs c f) is ∙ run_more c f x xs rest same other
 
--- a run has at least one word, and ends with the words at the latest
-pub counted : (words : List ℕ) (i n : ℕ) → i < length words → n ≡ same (get_or words i 0) (drop i words) → (1 ≤ n) × (i + n ≤ length words)
-counted words i n h count =
-    let some = same_more words i (get_or words i 0) h refl in
-    let most = same_le (get_or words i 0) (drop i words) in
-    (omega arith, omega (arith, length-drop i words))
-
--- ---- runs
-run_first : (c f n x : ℕ) (xs : List ℕ) → runs_from c f n x xs ≡ run_line c f (n + same x xs) x ++ runs c (f + (n + same x xs)) (drop (same x xs) xs)
-unfolding runs_from runs same
-run_first c f n x [] = sym (append-nil (run_line c f (n + 0) x) ∙ ap (λ k. run_line c f k x) (add-zero n))
-run_first c f n x (y ∷ ys) = go (eqb y x) (run_first c f (n + 1) x ys)
-  where
-    go : (t : Bool) → runs_from c f (n + 1) x ys ≡ run_line c f (n + 1 + same x ys) x ++ runs c (f + (n + 1 + same x ys)) (drop (same x ys) ys)
-        → cond t (runs_from c f (n + 1) x ys) (run_line c f n x ++ runs_from c (f + n) 1 y ys)
-        ≡ run_line c f (n + cond t (suc (same x ys)) 0) x ++ runs c (f + (n + cond t (suc (same x ys)) 0)) (drop (cond t (suc (same x ys)) 0) (y ∷ ys))
-    go true h =
-        let e : n + 1 + same x ys ≡ n + suc (same x ys) = omega arith in
-        h ∙ ap (λ k. run_line c f k x ++ runs c (f + k) (drop (same x ys) ys)) e
-    go false h = ap (λ k. run_line c f k x ++ runs_from c (f + k) 1 y ys) (sym (add-zero n))
-
--- a turn of the loop over the runs
-pub run_turn : (c i n x : ℕ) (words : List ℕ) → i < length words → x ≡ get_or words i 0 → n ≡ same x (drop i words)
-    → runs c i (drop i words) ≡ run_line c i n x ++ runs c (i + n) (drop (i + n) words)
+pub runs_done : (c f : ℕ) (l : List ℕ) → length l ≡ 0 → runs c f l ≡ []
 unfolding runs
-run_turn c i n x words h is count =
-    let s = same x (drop (i + 1) words) in
-    let more : n ≡ 1 + s = count ∙ same_more words i x h (sym is) ∙ omega arith in
-    let sum : i + 1 + s ≡ i + n = omega arith in
-    ap (runs c i) (drop-cons words i 0 h)
-    ∙ ap (λ k. runs_from c i 1 k (drop (suc i) words)) (sym is)
-    ∙ ap (λ k. runs_from c i 1 x (drop k words)) (sym (add-one i))
-    ∙ run_first c i 1 x (drop (i + 1) words)
-    ∙ ap (λ (l : List ℕ). run_line c i (1 + s) x ++ runs c (i + (1 + s)) l) (drop-drop s (i + 1) words ∙ ap (λ k. drop k words) sum)
-    ∙ ap (λ k. run_line c i k x ++ runs c (i + k) (drop (i + n) words)) (sym more)
+runs_done c f [] h = refl
+runs_done c f (x ∷ xs) h = absurd (omega arith)
 
--- a turn of the loop over the channels
-channel_turn : (n c : ℕ) (words : List ℕ) → 0 < n → channel_lines n c words ≡ runs c 0 (take 128 words) ++ channel_lines (n - 1) (c + 1) (drop 128 words)
+-- the first n words, or all
+module _ (n : ℕ) (words part : List ℕ) where
+  first_part : (rest : List ℕ) → words ≡ part ++ rest → length part ≡ min n (length words) → (take n words ≡ part) × (drop n words ≡ rest)
+  first_part [] is size =
+      let same = is ∙ append-nil part in
+      let low : length part ≤ n = omega arith in
+      (ap (take n) same ∙ take_all n part low, ap (drop n) same ∙ drop_of_length-le part {i = n} low)
+  first_part (y ∷ ys) is size =
+      let all : length words ≡ length part + suc (length ys) = ap length is ∙ length-append part (y ∷ ys) in
+      let e : n ≡ length part = omega arith in
+      (ap (λ k. take k words) e ∙ ap (take (length part)) is ∙ take-append_seam part (y ∷ ys), ap (λ k. drop k words) e ∙ ap (drop (length part)) is ∙ drop-append_seam part (y ∷ ys))
+
+-- ---- channels
+pub channels_turn : (n c : ℕ) (words part rest : List ℕ) {k : ℕ} → words ≡ part ++ rest → length part ≡ min k (length words) → k ≡ 128
+    → channel_lines (n + 1) c words ≡ runs c 0 part ++ channel_lines n (c + 1) rest
 unfolding channel_lines
-channel_turn zero c words h = absurd (not-suc-le-zero h)
-channel_turn (suc n) c words h =
-    let e : suc n - 1 ≡ n = omega arith in
-    rw e
+channels_turn n c words part rest is size whole =
+    let parts = first_part 128 words part rest is (size ∙ ap (λ k. min k (length words)) whole) in
+    rw (add-one n, parts.0, parts.1)
 
-pub channel_next : (m c : ℕ) (words : List ℕ) → c < m
-    → channel_lines (m - c) c (drop (128 * c) words) ≡ runs c 0 (take 128 (drop (128 * c) words)) ++ channel_lines (m - (c + 1)) (c + 1) (drop (128 * (c + 1)) words)
-channel_next m c words h =
-    let left : m - c - 1 ≡ m - (c + 1) = omega arith in
-    let at : 128 * c + 128 ≡ 128 * (c + 1) = omega arith in
-    channel_turn (m - c) c (drop (128 * c) words) (omega arith)
-    ∙ ap (λ k. runs c 0 (take 128 (drop (128 * c) words)) ++ channel_lines k (c + 1) (drop 128 (drop (128 * c) words))) left
-    ∙ ap (λ (l : List ℕ). runs c 0 (take 128 (drop (128 * c) words)) ++ channel_lines (m - (c + 1)) (c + 1) l) (drop-drop 128 (128 * c) words ∙ ap (λ k. drop k words) at)
-
-pub channel_done : (n c : ℕ) (words : List ℕ) → n ≡ 0 → channel_lines n c words ≡ []
-unfolding channel_lines
-channel_done n c words e = rw e
-
-pub length_block : (n c : ℕ) (k e : Bool) → length (block_line n k e c) ≤ 128
-unfolding block_line
-length_block n c k e = simp length-append (omega (arith, length_field_lem n 32, length_field_lem (flag k) 32, length_field_lem (flag e) 32, length_field_lem c 10))
+pub channels_done : (n c : ℕ) (words : List ℕ) → (0 < n → length words ≡ 0) → channel_lines n c words ≡ []
+unfolding channel_lines runs
+channels_done zero c words h = refl
+channels_done (suc n) c [] h = channels_done n (c + 1) [] (λ k. refl)
+channels_done (suc n) c (w ∷ ws) h = absurd (omega (arith, h (omega arith)))

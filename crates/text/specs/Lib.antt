@@ -1,3 +1,3 @@
--- What the contracts of `text` cite: the lines of a block.
-pub mod Same
+-- What the contracts of `text` cite: the lines of a block, and how they are stored.
+pub mod Stored
 pub mod Lines

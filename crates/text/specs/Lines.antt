@@ -1,9 +1,7 @@
 -- The lines that are printed: a block with its runs of equal bits, and a refusal (document 01, '`trial`'). Definitions only.
-use Rattle.std.specs.Prelude.{Bool, ◌&&◌, cond, List, [], ◌∷◌, ◌++◌, ℕ, zero, suc, ◌+◌, ◌*◌, leb, eqb, length, take, drop}
+use Rattle.std.specs.Prelude.{Bool, ◌&&◌, cond, List, [], ◌∷◌, ◌++◌, ℕ, zero, suc, ◌+◌, ◌*◌, leb, eqb, length, take, drop, Option, Some, None}
 use Rattle.std.proofs.lemmas.List.Edits.{sets}
 use Rattle.commands.specs.Digits.{SPACE, flag, hex, decimal}
-use Rattle.text.specs.declared.Printed.{Printed}
-use Rattle.text.specs.declared.Printed.TheVariants.{Bytes, Refused}
 
 abbrev pub NEWLINE : ℕ
 NEWLINE = 10
@@ -54,9 +52,9 @@ block_room = 128 + 72 * 4096
 unfoldable pub fits : ℕ → ℕ → ℕ → Bool
 fits channels words room = leb channels 32 && (eqb words 4096 && leb block_room room)
 
--- the answer is the text's length; the text stands at the start of the slice
-unfoldable pub printed : Bool → List ℕ → Printed
-printed room text = cond room (Bytes (length text)) Refused
+-- the answer is the text's length, if there is room; the text stands at the start of the slice
+unfoldable pub printed : Bool → List ℕ → Option ℕ
+printed room text = cond room (Some (length text)) None
 
 unfoldable pub printed_out : Bool → List ℕ → List ℕ → List ℕ
 printed_out room text out = cond room (sets out 0 text) out

@@ -1,124 +1,64 @@
 // The lines that are printed.
-ghost use Rattle.std.specs.Prelude.{◌≡◌, ◌+◌, ◌*◌, ◌<◌, ◌≤◌, leb, length, get_or, drop};
-ghost use Rattle.std.proofs.lemmas.List.Edits.{sets};
-ghost use Rattle.commands.specs.Digits.{flag};
+ghost use Rattle.std.specs.Prelude.{◌≡◌, leb, length};
 ghost use Rattle.text.specs.Lines.{NEWLINE, field, run_line, runs, channel_lines, block_line, block_text, refusal_text, fits, printed, printed_out};
-ghost use Rattle.text.specs.Same.{same};
+ghost use Rattle.text.specs.Stored.{Prints};
 
-use super::Printed;
-use super::digits::{put_decimal, put_hex};
+use super::printing::Text;
 
 // The bytes that any block's text needs at most: 72 for the line of each of 32 × 128 words.
 pub const BLOCK_ROOM: usize = 295_040;
 
-const SPACE: u8 = 32;
+const SPACE: u8 = b' ';
 
-const NEWLINE: u8 = 10;
+const NEWLINE: u8 = b'\n';
 
-// Stores a decimal and the byte after it.
-fn put_field(out: &mut [u8], at: usize, v: usize, after: u8) -> usize
-    requires { at + 21 ≤ length out.old }
-    ensures { (result ≡ at + length (field v after)) × (out.new ≡ sets out.old at (field v after)) }
-{
-    let next = put_decimal(out, at, v, 20);
-    out[next] = after;
-    next + 1
-}
+impl Text<'_> {
+    // The line of a run.
+    fn run(&mut self, channel: usize, first: usize, count: usize, bits: u32)
+        ensures { Prints self.old self.new (run_line channel first count bits) }
+    {
+        self.field(channel, SPACE);
+        self.field(first, SPACE);
+        self.field(count, SPACE);
+        self.hex(bits);
+        self.byte(NEWLINE);
+    }
 
-// Stores the line of a run.
-fn put_run(
-    out: &mut [u8],
-    at: usize,
-    channel: usize,
-    first: usize,
-    count: usize,
-    bits: u32,
-) -> usize
-    requires { at + 72 ≤ length out.old }
-    ensures { (result ≡ at + length (run_line channel first count bits))
-        × (out.new ≡ sets out.old at (run_line channel first count bits)) }
-{
-    let a = put_field(out, at, channel, SPACE);
-    let b = put_field(out, a, first, SPACE);
-    let c = put_field(out, b, count, SPACE);
-    put_hex(out, c, bits);
-    out[c + 8] = NEWLINE;
-    c + 9
-}
-
-// How many words from `first` on equal the one there.
-fn run_length(words: &[u32], first: usize) -> usize
-    requires { first < length words.now }
-    ensures { result ≡ same (get_or words.now first 0) (drop first words.now) }
-{
-    let mut i = first;
-    while i < words.len() {
-        if words[i] != words[first] {
-            return i - first;
+    // The lines of a channel's words, one for each run of equal bits.
+    fn runs(&mut self, channel: usize, words: &[u32])
+        ensures { Prints self.old self.new (runs channel 0 words.now) }
+    {
+        let mut first = 0;
+        for run in words.chunk_by(|a, b| a == b) {
+            self.run(channel, first, run.len(), run[0]);
+            first += run.len();
         }
-        i += 1;
     }
-    i - first
-}
 
-// Stores the lines of a channel's words.
-fn put_runs(out: &mut [u8], start: usize, channel: usize, words: &[u32]) -> usize
-    requires { start + 72 * length words.now ≤ length out.old }
-    ensures { (result ≡ start + length (runs channel 0 words.now))
-        × (out.new ≡ sets out.old start (runs channel 0 words.now)) }
-{
-    let mut at = start;
-    let mut first = 0;
-    while first < words.len() {
-        let count = run_length(words, first);
-        at = put_run(out, at, channel, first, count, words[first]);
-        first += count;
+    // The lines of the first `channels` channels, of 128 words each.
+    fn channels(&mut self, channels: usize, words: &[u32])
+        ensures { Prints self.old self.new (channel_lines channels 0 words.now) }
+    {
+        for (channel, part) in words.chunks(128).take(channels).enumerate() {
+            self.runs(channel, part);
+        }
     }
-    at
-}
 
-// Stores the lines of 32 channels' words, up to `channels`.
-fn put_channels(out: &mut [u8], start: usize, channels: usize, words: &[u32]) -> usize
-    requires { (channels ≤ 32) × (length words.now ≡ 4096) × (start + 72 * 4096 ≤ length out.old) }
-    ensures { (result ≡ start + length (channel_lines channels 0 words.now))
-        × (out.new ≡ sets out.old start (channel_lines channels 0 words.now)) }
-{
-    let mut at = start;
-    let mut c = 0;
-    while c < channels {
-        let first = 128 * c;
-        at = put_runs(out, at, c, &words[first..first + 128]);
-        c += 1;
+    fn block_line(&mut self, number: usize, keep_alive: bool, ended: bool, channels: usize)
+        ensures { Prints self.old self.new (block_line number keep_alive ended channels) }
+    {
+        self.byte(b'B');
+        self.byte(SPACE);
+        self.field(number, SPACE);
+        self.field(usize::from(keep_alive), SPACE);
+        self.field(usize::from(ended), SPACE);
+        self.field(channels, NEWLINE);
     }
-    at
-}
-
-fn flag(b: bool) -> usize
-    ensures { result ≡ flag b }
-{
-    if b { 1 } else { 0 }
-}
-
-fn put_block_line(
-    out: &mut [u8],
-    number: usize,
-    keep_alive: bool,
-    ended: bool,
-    channels: usize,
-) -> usize
-    requires { 128 ≤ length out.old }
-    ensures { (result ≡ length (block_line number keep_alive ended channels))
-        × (out.new ≡ sets out.old 0 (block_line number keep_alive ended channels)) }
-{
-    out[0] = b'B';
-    out[1] = SPACE;
-    let a = put_field(out, 2, number, SPACE);
-    let b = put_field(out, a, flag(keep_alive), SPACE);
-    let c = put_field(out, b, flag(ended), SPACE);
-    put_field(out, c, channels, NEWLINE)
 }
 
 // Prints a block: its number, its flags and channels, and for each channel the runs of equal bits.
+// None where a slice lacks its length, or room for any text of a block.
+#[tactic(auto, unfolding(crate::specs::Lines::fits, crate::specs::Lines::printed, crate::specs::Lines::printed_out))]
 pub fn block_text(
     number: usize,
     keep_alive: bool,
@@ -126,45 +66,47 @@ pub fn block_text(
     channels: usize,
     words: &[u32],
     out: &mut [u8],
-) -> Printed
+) -> Option<usize>
     ensures { (result ≡ printed (fits channels (length words.now) (length out.old))
         (block_text number keep_alive ended channels words.now))
         × (out.new ≡ printed_out (fits channels (length words.now) (length out.old))
         (block_text number keep_alive ended channels words.now) out.old) }
 {
-    if channels > 32 {
-        return Printed::Refused;
+    if channels > 32 || words.len() != 4096 || out.len() < BLOCK_ROOM {
+        return None;
     }
-    if words.len() != 4096 {
-        return Printed::Refused;
-    }
-    if out.len() < BLOCK_ROOM {
-        return Printed::Refused;
-    }
-    let at = put_block_line(out, number, keep_alive, ended, channels);
-    Printed::Bytes(put_channels(out, at, channels, words))
+    let mut text = Text::new(out);
+    text.block_line(number, keep_alive, ended, channels);
+    text.channels(channels, words);
+    Some(text.len())
 }
 
 // Prints a refusal.
-pub fn refusal_text(number: u32, out: &mut [u8]) -> Printed
+#[tactic(auto, unfolding(crate::specs::Lines::printed, crate::specs::Lines::printed_out))]
+pub fn refusal_text(number: u32, out: &mut [u8]) -> Option<usize>
     ensures { (result ≡ printed (leb 23 (length out.old)) (refusal_text number))
         × (out.new ≡ printed_out (leb 23 (length out.old)) (refusal_text number) out.old) }
 {
     if out.len() < 23 {
-        return Printed::Refused;
+        return None;
     }
-    out[0] = b'X';
-    out[1] = SPACE;
-    Printed::Bytes(put_field(out, 2, number as usize, NEWLINE))
+    let mut text = Text::new(out);
+    text.byte(b'X');
+    text.byte(SPACE);
+    text.field(number as usize, NEWLINE);
+    Some(text.len())
 }
 
 // Prints a number on a line of its own.
-pub fn number_line(v: usize, out: &mut [u8]) -> Printed
+#[tactic(auto, unfolding(crate::specs::Lines::printed, crate::specs::Lines::printed_out))]
+pub fn number_line(v: usize, out: &mut [u8]) -> Option<usize>
     ensures { (result ≡ printed (leb 21 (length out.old)) (field v NEWLINE))
         × (out.new ≡ printed_out (leb 21 (length out.old)) (field v NEWLINE) out.old) }
 {
     if out.len() < 21 {
-        return Printed::Refused;
+        return None;
     }
-    Printed::Bytes(put_field(out, 0, v, NEWLINE))
+    let mut text = Text::new(out);
+    text.field(v, NEWLINE);
+    Some(text.len())
 }

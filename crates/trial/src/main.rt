@@ -2,13 +2,11 @@
 // in the crates `obeying` and `session`; here it is read and written.
 #![tactic(auto)]
 
-ghost use Rattle.std.specs.Prelude.{◌≡◌, ◌≤◌, length, IfSome};
-ghost use Rattle.obeying.specs.Obeying.{written};
+ghost use Rattle.std.specs.Prelude.{◌≡◌, ◌≤◌, length, IfSome, IfOk};
 
-use buffer::{Shape, refusals};
-use clip::ClipRead;
-use obeying::{Obeyed, Session};
-use player::{Handled, Player};
+use buffer::Refusal;
+use obeying::Session;
+use player::Player;
 use session::State;
 use std::io::Read;
 use std::rt::Files;
@@ -28,19 +26,8 @@ fn out_buffer() -> [u8; OUT]
     [0; OUT]
 }
 
-// How many bytes the answer to a line printed.
-fn printed_by(answer: Obeyed) -> usize
-    ensures { result ≡ written answer }
-{
-    match answer {
-        Obeyed::Line(line) => line.printed,
-        Obeyed::NoRoom => 0,
-    }
-}
-
-// Obeys the lines of the input to its end, and a last line that lacks its newline. Of the `n` bytes
-// that were read, those from `at` on are left: each `feed` takes some. Nothing says that the input
-// ends, so the reads are counted.
+// Obeys the lines of the input to its end, and a last line that lacks its newline. Each `feed` takes
+// some of the bytes that were read. Nothing says that the input ends, so the reads are counted.
 fn run(
     rt: &impl Print,
     input: &mut impl Read,
@@ -56,86 +43,52 @@ fn run(
         if n == 0 {
             break;
         }
-        let mut at = 0;
-        while at < n {
-            let fed = session::feed(
-                state,
-                &bytes[at..n],
-                &mut line,
-                samples,
-                &mut words,
-                &mut out,
-            );
-            let printed = fed.printed;
-            rt.write_all(&out[..printed])?;
+        let mut rest = &bytes[..n];
+        while !rest.is_empty() {
+            let fed = session::feed(state, rest, &mut line, samples, &mut words, &mut out);
+            rt.write_all(&out[..fed.printed])?;
+            rest = &rest[fed.taken..];
             state = fed.state;
-            at += fed.taken;
         }
     }
-    let printed = printed_by(session::finish(state, &line, samples, &mut words, &mut out));
-    rt.write_all(&out[..printed])
-}
-
-// Prints a refused clip.
-fn refuse(rt: &impl Print, number: u32) -> io::Result<()> {
-    let mut out = [0u8; 64];
-    if let text::Printed::Bytes(n) = text::refusal_text(number, &mut out) {
-        if n <= 64 {
-            rt.write_all(&out[..n])?;
-        }
+    if let Some(last) = session::finish(state, &line, samples, &mut words, &mut out) {
+        rt.write_all(&out[..last.printed])?;
     }
     Ok(())
 }
 
-// Gives a player at the clip's rate the clip, and obeys the lines.
-fn start(rt: &impl Print, input: &mut impl Read, shape: Shape, samples: &[u32]) -> io::Result<()> {
-    match Player::new(shape.rate) {
-        Handled::Done(fresh) => {
-            match fresh.set_buffer(shape.channels, shape.frames, shape.rate, samples) {
-                Handled::Done(player) => {
-                    let session = Session { player, number: 0 };
-                    run(rt, input, State { session, len: 0 }, samples)
-                }
-                Handled::Refused(number) => refuse(rt, number),
-            }
-        }
-        Handled::Refused(number) => refuse(rt, number),
+// Prints why a clip is refused.
+fn refuse(rt: &impl Print, refusal: Refusal) -> io::Result<()> {
+    let mut out = [0u8; 64];
+    match text::refusal_text(refusal.number(), &mut out) {
+        Some(n) if n <= 64 => rt.write_all(&out[..n]),
+        _ => Ok(()),
     }
 }
 
 // How many samples the clip of a file's bytes has: an accepted file ends with them, four bytes each.
 fn sample_count(file: &[u8]) -> usize {
-    let len = file.len();
-    match clip::read_clip(file) {
-        ClipRead::Clip(header) => {
-            let start = header.start;
-            if start < len { (len - start) / 4 } else { 0 }
-        }
-        ClipRead::Refused(_) => 0,
-    }
+    clip::read_clip(file).map_or(0, |header| file.len().saturating_sub(header.start) / 4)
 }
 
-// Reads the clip of a file's bytes, and plays it.
-fn load(
-    rt: &impl Print,
-    input: &mut impl Read,
-    file: &[u8],
-    samples: &mut [u32],
-) -> io::Result<()> {
+// Reads the clip of a file's bytes. The player that it is given has the clip's rate; it stands beside
+// the count of the samples.
+fn load(file: &[u8], samples: &mut [u32]) -> Result<(Player, usize), Refusal>
+    ensures { IfOk result (λ loaded. loaded.1 ≤ length samples.old) }
+{
     let count = sample_count(file);
     if count > samples.len() {
-        return refuse(rt, refusals::LAYOUT);
+        return Err(Refusal::Layout);
     }
-    match clip::read_frames(file, &mut samples[..count]) {
-        ClipRead::Clip(header) => {
-            let shape = header.shape;
-            start(rt, input, shape, &samples[..count])
-        }
-        ClipRead::Refused(number) => refuse(rt, number),
-    }
+    let samples = &mut samples[..count];
+    let shape = clip::read_frames(file, samples)?.shape;
+    let fresh = Player::new(shape.rate)?;
+    let player = fresh.set_buffer(shape.channels, shape.frames, shape.rate, samples)?;
+    Ok((player, count))
 }
 
-// Reads until `bytes` is full, the file ends or a read fails, and returns how many bytes it read.
+// Reads until `bytes` is full, the file ends or a read fails, and returns how many bytes it read. A `for`
+// would count the reads, and not what each gave.
 fn read_full(file: &mut impl Read, bytes: &mut [u8]) -> usize
     ensures { result ≤ length bytes.old }
 {
@@ -154,17 +107,22 @@ fn read_full(file: &mut impl Read, bytes: &mut [u8]) -> usize
 fn read_clip(rt: &impl Files, bytes: &mut [u8]) -> Option<usize>
     ensures { IfSome result (λ n. n ≤ length bytes.old) }
 {
-    match fs::open(rt, "clip.bin") {
-        Ok(mut file) => Some(read_full(&mut file, bytes)),
-        Err(_) => None,
-    }
+    let mut file = fs::open(rt, "clip.bin").ok()?;
+    Some(read_full(&mut file, bytes))
 }
 
 fn main(rt: HostRuntime) -> io::Result<()> {
-    let mut file = [0u8; 65537];
-    let mut samples = [0u32; 16384];
-    match read_clip(&rt, &mut file) {
-        Some(n) => load(&rt, &mut rt.stdin(), &file[..n], &mut samples),
-        None => refuse(&rt, refusals::LAYOUT),
+    let mut file = [0u8; 65_537];
+    let mut samples = [0u32; 16_384];
+    let Some(n) = read_clip(&rt, &mut file) else {
+        return refuse(&rt, Refusal::Layout);
+    };
+    match load(&file[..n], &mut samples) {
+        Ok((player, count)) => {
+            let session = Session { player, number: 0 };
+            let state = State { session, len: 0 };
+            run(&rt, &mut rt.stdin(), state, &samples[..count])
+        }
+        Err(refusal) => refuse(&rt, refusal),
     }
 }

@@ -1,4 +1,3 @@
--- `commands::command_lines` carries the statement of `specs/Statement.antt`. Assumes nothing.
 use Rattle.commands.proofs.Texts.{texts_are_read, lines_are_texts}
 use Rattle.commands.proofs.command_lines.Goals as goal
 

@@ -1,57 +1,42 @@
-use mathlib.Core.Path.{◌≡◌, refl, sym, ap, ◌∙◌}
-use mathlib.Core.List.{List, []}
-use Prim.Native.Nat.{ℕ, ◌+◌, ◌*◌, ◌/◌, ◌^◌}
-use native.Mathlib.Nat.{zero-add}
-use native.Mathlib.Numerals.{add-one}
-use native.Mathlib.Omega.{arith}
-use lib.ListN.{length, length-append}
-use lib.Seq.{sets}
-use borrow.Author.Rules.{rules}
+use Rattle.std.proofs.Common.{rules, ◌≡◌, ◌+◌, ◌*◌, ◌/◌, ◌^◌, refl, ap, sym, ◌∙◌, List, ◌++◌, append_assoc, append-nil, add-one, unwrap_or, take, drop, ℕ, arith}
 use Rattle.text.specs.Lines.{NEWLINE, field}
-use Rattle.text.proofs.Runs.{length_field_lem}
-use Rattle.text.proofs.Stores.{stored}
 use Rattle.detune_table.specs.Bounds.{LOW, lower, found}
 use Rattle.detune_table.specs.Text.{table_text}
+use Rattle.lists.specs.Table.{table}
 use Rattle.detune_table.proofs.Found.{lower_fits}
-use Rattle.detune_table.proofs.Lines.{line_next, lines_end, taken}
-use Rattle.detune_table.proofs.put_table.Invariants.{from}
+use Rattle.detune_table.proofs.Lines.{line_turn, line_next, lines_end}
 use Rattle.detune_table.proofs.put_table.Goals as goal
 
-pub loop-c-init : goal.loop-c-init
+pub loop-entry-init : goal.loop-entry-init
 unfolding lower
-loop-c-init c = (search rules, refl, search rules, refl, zero-add (length (from 0)), refl)
-
-pub put_line-at-requires : goal.put_line-at-requires
-put_line-at-requires c = omega arith
+loop-entry-init c = (refl, search rules, refl)
 
 pub scaled-bound-requires : goal.scaled-bound-requires
-scaled-bound-requires c = (rw c.loop-c.invariant.3 (lower_fits c.loop-c.c (omega arith)), omega arith)
+scaled-bound-requires c = (rw c.loop-entry.invariant.0 (lower_fits c.loop-entry._entry c.loop-entry-test.true), omega arith)
 
-pub loop-c-preserved : goal.loop-c-preserved
+pub overflow_add-at : goal.overflow_add-at
+overflow_add-at c =
+    let turn = line_turn 25200 c.loop-entry.at _ _ c.loop-entry.out _ (search rules) (omega arith) (c.unwrap_or-at.ensures ∙ ap (λ o. unwrap_or o 0) c.number_line.ensures.0) c.number_line.ensures.1 in
+    omega (arith, turn.0)
+
+pub loop-entry-preserved : goal.loop-entry-preserved
 unfolding found lower
-loop-c-preserved c =
-    let k = c.loop-c.c in
-    let at = c.loop-c.at in
-    let out = c.loop-c.out in
-    let here : c.loop-c.bound / 2 ^ 32 ≡ found k = ap (λ x. x / 2 ^ 32) c.loop-c.invariant.3 in
-    let next = line_next 1200 found k (omega arith) in
-    let grown = c.put_line-at.ensures.0 ∙ ap (λ v. at + length (field v NEWLINE)) here in
-    let put = c.put_line-at.ensures.1 ∙ ap (λ v. sets out at (field v NEWLINE)) here in (
-      omega arith,
-      c.put_line-at.auto.out ∙ c.loop-c.invariant.1,
-      omega (arith, grown, length_field_lem (found k) NEWLINE),
-      c.scaled-bound.ensures ∙ ap (λ x. x * LOW / 2 ^ 62) c.loop-c.invariant.3 ∙ ap lower (sym (add-one k)),
-      omega (arith, c.loop-c.invariant.4, ap length next, length-append (field (found k) NEWLINE) (from (k + 1)), grown),
-      sym (ap (λ (l : List ℕ). sets out at l) next ∙ stored (field (found k) NEWLINE) (from (k + 1)) out _ at _ put grown) ∙ c.loop-c.invariant.5,
+loop-entry-preserved c =
+    let k = c.loop-entry._entry in
+    let here : c.loop-entry.bound / 2 ^ 32 ≡ found k = ap (λ x. x / 2 ^ 32) c.loop-entry.invariant.0 in
+    let turn = line_turn 25200 c.loop-entry.at _ _ c.loop-entry.out _ (search rules) (omega arith) (c.unwrap_or-at.ensures ∙ ap (λ o. unwrap_or o 0) c.number_line.ensures.0) c.number_line.ensures.1 in
+    let left = table_text (drop (k + 1) (table 1200 found)) in
+    let printed = take c.loop-entry.at c.loop-entry.out in
+    let next = line_next 1200 found k c.loop-entry-test.true in (
+      c.scaled-bound.ensures ∙ ap (λ x. x * LOW / 2 ^ 62) c.loop-entry.invariant.0 ∙ ap lower (sym (add-one k)),
+      omega (arith, turn.0),
+      ap (λ (l : List ℕ). l ++ left) turn.1 ∙ append_assoc printed _ left ∙ ap (λ (l : List ℕ). printed ++ l) (ap (λ x. field x NEWLINE ++ left) here ∙ sym next) ∙ c.loop-entry.invariant.2,
     )
-
-pub shape_of-out : goal.shape_of-out
-shape_of-out c = c.loop-c.invariant.1
 
 pub returns : goal.returns
 returns c =
-    let all : c.loop-c.c ≡ 1200 = omega arith in
-    let done : from c.loop-c.c ≡ [] = ap from all ∙ lines_end 1200 found in
-    let full : c.loop-c.at ≡ length (from 0) = omega (arith, c.loop-c.invariant.4, ap length done) in
-    let put = sym (ap (λ (l : List ℕ). sets c.loop-c.out c.loop-c.at l) done) ∙ c.loop-c.invariant.5 in
-    (omega arith, taken (from 0) c.args.out.now _ _ full put (omega arith) ∙ ap table_text (sym c.generated.ensures.same))
+    let done = lines_end 1200 found c.loop-entry._entry c.loop-entry-test.false in
+    let printed = take c.loop-entry.at c.loop-entry.out in (
+      omega (arith, c.loop-entry.auto._entry-end),
+      sym (append-nil printed) ∙ ap (λ (l : List ℕ). printed ++ l) (sym done) ∙ c.loop-entry.invariant.2 ∙ ap table_text (sym c.generated.ensures.same),
+    )

@@ -1,20 +1,30 @@
--- `obeying::obey` meets its contract: there is room, or nothing is done. Assumes nothing.
-use Rattle.std.proofs.Common.{refl, ap, arith, le-leb}
-use borrow.Author.Tests.{lt-leb}
-use Rattle.obeying.specs.Obeying.{answered, words_after, out_after}
-use Rattle.obeying.specs.declared.Obeyed.TheVariants.{Line}
-use Rattle.obeying.proofs.Lengths.{answer_fits}
+-- `obeying::obey` meets its contract: there is room, or nothing is done.
+use Rattle.std.proofs.Common.{rules, refl, ap, ◌∙◌, ◌++◌, List, ℕ, Some, drop}
+use Rattle.std.proofs.lemmas.Bool.{le-leb, lt-leb}
+use Rattle.std.proofs.lemmas.List.Edits.{sets}
+use Rattle.text.specs.Lines.{block_room}
+use Rattle.obeying.specs.Obeying.{obeyed, answered, words_after, out_after}
+use Rattle.obeying.proofs.Front.{stored_in_front}
+use Rattle.obeying.proofs.Lengths.{obeyed_fits, answer_fits}
 use Rattle.obeying.proofs.obey.Goals as goal
 
-pub returns-then-out-lt-BLOCK_ROOM : goal.returns-then-out-lt-BLOCK_ROOM
+pub returns-in_err-out-clause-fact : goal.returns-in_err-out-clause-fact
 unfolding answered words_after out_after
-returns-then-out-lt-BLOCK_ROOM c = simp (lt-leb _ _ c.if-out-lt-BLOCK_ROOM.true) record { fact = (refl, refl, refl); result_in_bounds = omega arith }
+returns-in_err-out-clause-fact c = simp (lt-leb _ _ c.in_err-out.ensures.cases) (search rules, refl, refl)
 
-pub returns : goal.returns
+pub returns-clause-fact : goal.returns-clause-fact
 unfolding answered words_after out_after
-returns c =
-    simp (le-leb _ _ c.if-out-lt-BLOCK_ROOM.false)
-    record {
-      fact = (ap Line c.obey_line.ensures.0, c.obey_line.ensures.1, c.obey_line.ensures.2);
-      result_in_bounds = answer_fits _ _ _ _ _ _ c.obey_line.ensures.0 c.if-out-lt-BLOCK_ROOM.false;
-    }
+returns-clause-fact c =
+    let room = c.in_ok-out.ensures.cases.enough in
+    let front = c.in_ok-out.ensures.cases.same in
+    let out = c.args.out.now in
+    let text = (obeyed c.args.samples.now c.args.session c.args.words.now c.args.line.now).reply.text in
+    let fits = obeyed_fits c.args.samples.now c.args.session c.args.words.now c.args.line.now in
+    simp (le-leb block_room _ room) (
+      ap Some c.obey_line.ensures.0,
+      c.obey_line.ensures.1,
+      ap (λ (l : List ℕ). l ++ drop block_room out) (c.obey_line.ensures.2 ∙ ap (λ (l : List ℕ). sets l 0 text) front) ∙ stored_in_front block_room out text fits room,
+    )
+
+pub returns-clause-result_in_bounds : goal.returns-clause-result_in_bounds
+returns-clause-result_in_bounds c = answer_fits _ _ _ _ _ _ c.obey_line.ensures.0 c.in_ok-out.ensures.cases.enough

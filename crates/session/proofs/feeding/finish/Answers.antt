@@ -18,10 +18,10 @@ returns-then-len-eq0 c =
     simp (le-leb _ _ c.if-out-lt-BLOCK_ROOM.false, e) record { fact = (refl, refl, refl); result_in_bounds = omega arith }
 
 pub slice_bounds-obey-end : goal.slice_bounds-obey-end
-slice_bounds-obey-end c = length_within _ _ _ c.within-n.ensures
+slice_bounds-obey-end c = length_within _ _ _ c.min-n.ensures
 
 pub returns : goal.returns
 returns c =
     let e =
-    line_left c.args.samples.now (run_of c.args.state c.args.line.now c.args.words.now) _ c.if-len-eq0.false c.within-n.ensures in
+    line_left c.args.samples.now (run_of c.args.state c.args.line.now c.args.words.now) _ c.if-len-eq0.false c.min-n.ensures in
     rw e c.obey.ensures
