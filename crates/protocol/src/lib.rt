@@ -1,7 +1,11 @@
-// The lines of oracle/PROTOCOL.md: what `replay` reads, as orders with their numbers and words, and
-// what it prints. Nothing of the player is known here.
+// The lines of oracle/PROTOCOL.md: what `replay` reads, as orders with their values and as the words
+// that a call waits for, and what it prints.
 #![tactic(auto)]
 
+pub mod calls;
+pub mod numbers;
 pub mod orders;
 pub mod print;
-pub mod scan;
+pub mod sizes;
+pub mod waiting;
+mod words;

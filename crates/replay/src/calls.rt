@@ -1,197 +1,121 @@
-// The calls of `buffer`, made once their words are there.
-ghost use Rattle.std.specs.Prelude.{◌≡◌, length};
+// The calls of `buffer` and `reshape`, made once their words are there.
+use super::failure::Failure;
+use buffer::Shape;
+use protocol::calls::{ChannelCopy, ROOM};
+use protocol::print::{put_buffer, put_channel};
+use protocol::sizes::size;
 
-use super::control::shown;
-use buffer::{Copied, Shape};
-use player::Player;
-use protocol::orders::{COPY_FROM, EXTEND, size};
-use protocol::print::{put_buffer, put_channels, put_form, put_refusal};
-use protocol::scan::{Numbers, f32_of, smaller};
-use reshape::{Made, Parted};
-use std::io;
-
+// What the destination of a copy holds before.
 const UNTOUCHED: u32 = 0xdead_beef;
 
-const COPY_RATE: f32 = 48_000.0;
-
-// Room for a clip, a call's words or a result.
-pub fn room() -> [u32; 262144]
-    ensures { 262144 ≡ length result }
-{
-    [0; 262144]
+// The words of a buffer of this shape, and those behind them.
+fn parts(shape: Shape, words: &[u32]) -> Result<(&[u32], &[u32]), Failure> {
+    let len = size(shape).ok_or(Failure::Unknown)?;
+    words.split_at_checked(len).ok_or(Failure::Unknown)
 }
 
-fn shape_of(channels: usize, frames: usize, rate: usize) -> Shape {
-    Shape {
+// The room for a result of this shape.
+fn lent(shape: Shape, room: &mut [u32; ROOM]) -> Result<&mut [u32], Failure> {
+    let len = size(shape).ok_or(Failure::Unknown)?;
+    room.get_mut(..len).ok_or(Failure::Unknown)
+}
+
+// A copy out of a channel.
+pub fn copy_from(
+    rt: &impl Print,
+    copy: ChannelCopy,
+    words: &[u32],
+    out: &mut [u32; ROOM],
+) -> Result<(), Failure> {
+    let Shape {
         channels,
         frames,
-        rate: f32_of(rate),
-    }
+        ..
+    } = copy.shape;
+    let to = &mut out[..copy.len];
+    to.fill(UNTOUCHED);
+    let count = buffer::copy_from_channel_with_offset(
+        channels,
+        frames,
+        words,
+        to,
+        copy.channel,
+        copy.offset,
+    )?;
+    println!(rt; "K {count}")?;
+    Ok(put_channel(rt, 0, to)?)
 }
 
-fn fill(to: &mut [u32], word: u32) {
-    let mut i = 0;
-    while i < to.len() {
-        to[i] = word;
-        i += 1;
-    }
-}
-
-// A copy out into `to`; or a copy in, where `words` are those of the buffer, which `to` then holds,
-// and those of the source.
-fn copied(due: usize, n: Numbers, words: &[u32], to: &mut [u32]) -> Copied {
-    if due == COPY_FROM {
-        fill(to, UNTOUCHED);
-        return buffer::copy_from_channel_with_offset(n.a, n.b, words, to, n.c, n.d);
-    }
-    let len = smaller(to.len(), words.len());
-    frames::copy_frames(to, words);
-    buffer::copy_to_channel_with_offset(n.a, n.b, to, &words[len..], n.c, n.d)
-}
-
-// A copy's answer, and what it left: the destination's words, or the buffer.
-fn put_copied(
+// A copy into a channel. The words are those of the buffer, which stands in `out` then, and those of
+// the source.
+pub fn copy_to(
     rt: &impl Print,
-    answer: Copied,
-    due: usize,
-    n: Numbers,
+    copy: ChannelCopy,
     words: &[u32],
-) -> io::Result<()> {
-    match answer {
-        Copied::Refused(refusal) => put_refusal(rt, refusal),
-        Copied::Frames(count) => {
-            put_form(rt, b"K d\n", &[count])?;
-            if due == COPY_FROM {
-                return put_channels(rt, 1, words.len(), words);
-            }
-            let shape = Shape {
-                channels: n.a,
-                frames: n.b,
-                rate: COPY_RATE,
-            };
-            put_buffer(rt, b'K', shape, words)
-        }
-    }
+    out: &mut [u32; ROOM],
+) -> Result<(), Failure> {
+    let Shape {
+        channels,
+        frames,
+        ..
+    } = copy.shape;
+    let (before, source) = parts(copy.shape, words)?;
+    let samples = lent(copy.shape, out)?;
+    frames::copy_frames(samples, before);
+    let count = buffer::copy_to_channel_with_offset(
+        channels,
+        frames,
+        samples,
+        source,
+        copy.channel,
+        copy.offset,
+    )?;
+    println!(rt; "K {count}")?;
+    Ok(put_buffer(rt, 'K', copy.shape, samples)?)
 }
 
-// A buffer joined to another, or converted to another rate.
-fn made(due: usize, n: Numbers, words: &[u32], out: &mut [u32]) -> Made {
-    let shape = shape_of(n.a, n.b, n.c);
-    if due == EXTEND {
-        let len = smaller(size(n.a, n.b), words.len());
-        let other = shape_of(n.d, n.e, n.f);
-        return reshape::extend(shape, &words[..len], other, &words[len..], out);
-    }
-    reshape::convert(shape, words, f32_of(n.d), out)
-}
-
-// The refusal that is printed: `X 0` for a result without room.
-fn printed(refusal: u32) -> u32 {
-    if refusal == buffer::refusals::LENGTH {
-        0
-    } else {
-        refusal
-    }
-}
-
-// A buffer that was made, in `out`, or the refusal.
-fn put_made(rt: &impl Print, answer: Made, due: usize, out: &[u32]) -> io::Result<()> {
-    let letter = if due == EXTEND { b'J' } else { b'Q' };
-    match answer {
-        Made::Refused(refusal) => put_refusal(rt, printed(refusal)),
-        Made::Buffer(shape) => put_buffer(rt, letter, shape, out),
-    }
-}
-
-// Two buffers that were made, or the refusal.
-fn put_parted(rt: &impl Print, answer: Parted, first: &[u32], rest: &[u32]) -> io::Result<()> {
-    match answer {
-        Parted::Refused(refusal) => put_refusal(rt, refusal),
-        Parted::Buffers(a, b) => {
-            put_buffer(rt, b'V', a, first)?;
-            put_buffer(rt, b'V', b, rest)
-        }
-    }
-}
-
-fn parted(
+// A buffer joined to another.
+pub fn extend(
     rt: &impl Print,
-    n: Numbers,
+    first: Shape,
+    second: Shape,
     words: &[u32],
-    first: &mut [u32],
-    rest: &mut [u32],
-) -> io::Result<()> {
-    let len = words.len() - smaller(first.len(), words.len());
-    let k = smaller(len, rest.len());
-    let shape = shape_of(n.a, n.b, n.c);
-    let answer = reshape::split(shape, words, n.d, first, &mut rest[..k]);
-    put_parted(rt, answer, first, rest)
+    out: &mut [u32; ROOM],
+) -> Result<(), Failure> {
+    let (samples, other) = parts(first, words)?;
+    let result = reshape::extended_shape(first, samples.len(), second, other.len())?;
+    let out = lent(result, out)?;
+    reshape::extend(first, samples, second, other, out)?;
+    Ok(put_buffer(rt, 'J', result, out)?)
 }
 
-// A split, the rest of which has its own room.
-fn split(rt: &impl Print, n: Numbers, words: &[u32], first: &mut [u32]) -> io::Result<()> {
-    let mut rest = room();
-    parted(rt, n, words, first, &mut rest)
-}
-
-// The words of a conversion's result; 0 where it is refused.
-fn converted_size(n: Numbers, len: usize) -> usize {
-    match reshape::converted_shape(shape_of(n.a, n.b, n.c), len, f32_of(n.d)) {
-        Made::Refused(_) => 0,
-        Made::Buffer(s) => size(s.channels, s.frames),
-    }
-}
-
-// The length of the result, or of a split's first part.
-fn first_size(due: usize, n: Numbers, wanted: usize) -> usize {
-    match due {
-        21 => n.e,
-        22 => size(n.a, n.b),
-        23 => wanted,
-        24 => size(n.a, n.d),
-        25 => converted_size(n, wanted),
-        _ => 0,
-    }
-}
-
-// Makes the call that is due.
-fn called(
+// A buffer converted to another rate.
+pub fn convert(
     rt: &impl Print,
-    due: usize,
-    n: Numbers,
+    shape: Shape,
+    rate: f32,
     words: &[u32],
-    first: &mut [u32],
-) -> io::Result<()> {
-    match due {
-        21 | 22 => {
-            let answer = copied(due, n, words, first);
-            put_copied(rt, answer, due, n, first)
-        }
-        24 => split(rt, n, words, first),
-        _ => {
-            let answer = made(due, n, words, first);
-            put_made(rt, answer, due, first)
-        }
-    }
+    out: &mut [u32; ROOM],
+) -> Result<(), Failure> {
+    let result = reshape::converted_shape(shape, words.len(), rate)?;
+    let out = lent(result, out)?;
+    reshape::convert(shape, words, rate, out)?;
+    Ok(put_buffer(rt, 'Q', result, out)?)
 }
 
-// Answers an order that leaves the player alone.
-pub fn answered(
+// A buffer split in two. The rest has its own room.
+pub fn split(
     rt: &impl Print,
-    due: usize,
-    n: Numbers,
-    player: Player,
+    shape: Shape,
+    point: usize,
     words: &[u32],
-    first: &mut [u32],
-) -> io::Result<()> {
-    match due {
-        20 => shown(rt, player),
-        21..=25 => {
-            let j = smaller(first_size(due, n, words.len()), first.len());
-            called(rt, due, n, words, &mut first[..j])
-        }
-        26 => put_refusal(rt, 0),
-        27 => put_refusal(rt, buffer::refusals::SHAPE),
-        _ => Ok(()),
-    }
+    out: &mut [u32; ROOM],
+) -> Result<(), Failure> {
+    let mut behind = [0; ROOM];
+    let (first, rest) = reshape::split_shapes(shape, words.len(), point)?;
+    let part = lent(first, out)?;
+    let other = lent(rest, &mut behind)?;
+    reshape::split(shape, words, point, part, other)?;
+    put_buffer(rt, 'V', first, part)?;
+    Ok(put_buffer(rt, 'V', rest, other)?)
 }

@@ -5,29 +5,34 @@
 #![tactic(auto)]
 
 mod calls;
-mod control;
-mod input;
+mod failure;
+mod lines;
+mod machine;
+mod report;
 
-use calls::room;
-use player::{Handled, Player};
+use lines::Lines;
+use machine::{Machine, Memory};
+use protocol::calls::ROOM;
 use std::io;
 
-// The player with which the run begins is not used before an `R` line.
 fn main(rt: HostRuntime) -> io::Result<()> {
-    if let Handled::Done(player) = Player::new(48_000.0) {
-        let mut piece = [0u8; 65_536];
-        let mut clip = room();
-        let mut words = room();
-        let mut first = room();
-        input::run(
-            &rt,
-            &mut rt.stdin(),
-            player,
-            &mut piece,
-            &mut clip,
-            &mut words,
-            &mut first,
-        )?;
+    let mut input = rt.stdin();
+    let mut lines = Lines::new();
+    let mut machine = Machine::new();
+    let mut clip = [0; ROOM];
+    let mut words = [0; ROOM];
+    let mut out = [0; ROOM];
+    // Nothing says that the input ends, so the loop counts its turns.
+    for _ in 0..u64::MAX {
+        if !lines.advance(&mut input)? {
+            break;
+        }
+        let memory = Memory {
+            clip: &mut clip,
+            words: &mut words,
+            out: &mut out,
+        };
+        machine.hear(&rt, lines.line(), memory)?;
     }
     Ok(())
 }

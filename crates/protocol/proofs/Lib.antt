@@ -1,0 +1,2 @@
+-- Lemmas on digits that are read one by one.
+pub mod Digits

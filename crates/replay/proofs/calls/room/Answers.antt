@@ -1,8 +1,0 @@
--- `replay::calls::room` is safe and ends and meets its contract. Assumes nothing.
-use mathlib.Core.Path.{sym}
-use Prim.Native.Nat.{ℕ}
-use lib.ListN.{length-replicate}
-use Rattle.replay.proofs.calls.room.Goals as goal
-
-pub returns : goal.returns
-returns c = sym (length-replicate {A = ℕ} 262144 0)
