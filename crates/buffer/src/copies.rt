@@ -1,4 +1,5 @@
-// Copies out of and into a channel, as the W3C Web Audio API has them, with the count returned.
+// Copies out of and into a channel, as the W3C Web Audio API has them, with the count returned. The
+// parameters are document 01's and that API's, flat, since C passes them so.
 ghost use Rattle.std.specs.Prelude.{◌≡◌, ◌+◌, ◌-◌, ◌*◌, ◌≤◌, min, length, IfOk};
 ghost use Rattle.buffer.specs.Answers.{answer_of};
 ghost use Rattle.buffer.specs.Channels.{channel};
@@ -8,7 +9,7 @@ use super::Refusal;
 use super::limits::check_shape;
 
 // How many frames a copy moves, or its refusal.
-#[tactic(auto, unfolding(crate::specs::Copies::copied))]
+#[tactic(auto, using(lists::specs::Rows::row_fits), unfolding(crate::specs::Copies::copied))]
 fn checked(
     channels: usize,
     frames: usize,
@@ -69,6 +70,7 @@ pub fn copy_from_channel(
 }
 
 // Copies `source` into the channel `number` from `offset` on.
+#[tactic(auto, using(crate::proofs::Moved::into))]
 pub fn copy_to_channel_with_offset(
     channels: usize,
     frames: usize,

@@ -1,6 +1,6 @@
-// Buffers: limits, shapes and copies. A buffer's channels lie one after another in one lent slice of
-// f32 bit patterns. Each public call answers for every input: with its result, or with the number of
-// the refusal in document 01's table, and all lent memory unchanged.
+// Buffers: limits, shapes and copies. A buffer's channels lie one after another in one lent slice
+// of f32 bit patterns. Each public call answers for every input: with its result, or with the
+// refusal of document 01's table, and all lent memory unchanged.
 #![tactic(auto)]
 
 mod channels;
@@ -22,7 +22,7 @@ pub use refusals::Refusal;
 
 // The channels of a buffer, the frames in each of them, and the sample rate.
 #[repr(C)]
-#[derive(Clone, Copy)]
+#[derive(Clone, Copy, Default)]
 pub struct Shape {
     pub channels: usize,
     pub frames: usize,

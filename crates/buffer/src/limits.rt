@@ -15,7 +15,8 @@ const MIN_SAMPLE_RATE: f32 = 3_000.0;
 
 const MAX_SAMPLE_RATE: f32 = 768_000.0;
 
-// Whether samples of the length `len` are that many channels of that many frames, within the limits.
+// Whether samples of the length `len` are that many channels of that many frames, within the
+// limits.
 #[tactic(auto, unfolding(crate::specs::Limits::valid_shape))]
 pub fn is_valid_shape(channels: usize, frames: usize, len: usize) -> bool
     ensures { result ≡ valid_shape channels frames len }
@@ -24,7 +25,7 @@ pub fn is_valid_shape(channels: usize, frames: usize, len: usize) -> bool
 }
 
 // Whether a rate is within the limits; a NaN isn't.
-#[tactic(auto, unfolding(crate::specs::Limits::valid_rate))]
+#[tactic(auto, using(crate::proofs::Rates::rate_above, crate::proofs::Rates::rate_below))]
 pub fn is_valid_sample_rate(rate: f32) -> bool
     ensures { result ≡ valid_rate rate }
 {
@@ -32,6 +33,7 @@ pub fn is_valid_sample_rate(rate: f32) -> bool
 }
 
 // Refuses what isn't a valid shape.
+#[tactic(auto, using(crate::specs::Limits::valid))]
 pub fn check_shape(channels: usize, frames: usize, len: usize) -> Result<(), Refusal>
     ensures answer { result ≡ check (valid_shape channels frames len) refused.Shape }
     ensures valid { IfOk result (λ _. Valid channels frames len) }

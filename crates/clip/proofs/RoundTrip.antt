@@ -1,18 +1,17 @@
 -- The reader accepts exactly the bytes of the layout, and reads what they were made of. Assumes nothing.
 use mathlib.Core.Path.{◌≡◌, refl, ap, sym, ◌∙◌}
-use mathlib.Core.Bool.{Bool, true, false, not}
+use mathlib.Core.Bool.{true}
 use mathlib.Core.List.{List, [], ◌++◌, append-nil}
 use Prim.Native.Nat.{ℕ, ◌+◌, ◌*◌, ◌^◌, ◌≤◌, ◌<◌}
 use native.Mathlib.Nat.{mul-le-mul_left, mul-one, le_of_lt}
 use native.Mathlib.Omega.{arith}
-use lib.Dec.{T, leb, leb→le, nleb→lt, lit<}
 use lib.ListN.{length, get_or, drop, length-append, length-drop, get_or-eq_default, drop_of_length-le}
 use lib.Seq.{drop-drop, drop-append-add}
 use borrow.Author.Tests.{leb-true, eqb-true, le-leb, eq-eqb}
 use Rattle.lists.specs.Table.{table, length_table, get_or_table, table_same, table_get_or}
 use Rattle.clip.specs.Layout.{bytes, words, header_length, offset, file_length, layout}
 use Rattle.clip.specs.Reading.{number, channels_field, frames_field, rate_field, offset_field, frames_from, offsets_match, is_layout}
-use Rattle.clip.specs.Statement.{Below, IsClip, Sound, Complete}
+use Rattle.clip.specs.Statement.{Below, IsClip, Sound, Complete, ClipFile}
 use Rattle.clip.proofs.Numbers.{length_bytes, skip, below_drop, number_bytes, number_lt, bytes_number}
 use Rattle.clip.proofs.Words.{length_words, word_at, words_numbers}
 use Rattle.clip.proofs.Each.{both, split, each_at, each_all}
@@ -22,18 +21,13 @@ piece : (n at : ℕ) (file : List ℕ) → at + n ≤ length file → Below 256 
 piece n at file room h = rw (← drop-drop n at file) (bytes_number n (drop at file) (simp length-drop (omega arith)) (below_drop at file h))
 
 words_below : (k at : ℕ) (file : List ℕ) → Below 256 file → Below (2 ^ 32) (table k (λ i. number 4 (drop (at + 4 * i) file)))
-words_below k at file h j = go (leb (j + 1) k) (leb→le (j + 1) k) (nleb→lt (j + 1) k)
-  where
-    go : (t : Bool) → (T t → j + 1 ≤ k) → (T (not t) → k < j + 1) → get_or (table k (λ i. number 4 (drop (at + 4 * i) file))) j 0 < 2 ^ 32
-    go true p q =
-        let in-it = p tt in
-        rw (get_or_table k (λ i. number 4 (drop (at + 4 * i) file)) j 0 (omega arith)) (number_lt 4 (drop (at + 4 * j) file) (below_drop (at + 4 * j) file h))
-    go false p q =
-        let past = q tt in
-        let none : get_or (table k (λ i. number 4 (drop (at + 4 * i) file))) j 0 ≡ 0 = get_or-eq_default (table k (λ i. number 4 (drop (at + 4 * i) file))) 0 {n = j} (rw length_table (omega arith)) in
-        rw none (lit< tt)
+words_below k at file h j =
+    let w : List ℕ = table k (λ i. number 4 (drop (at + 4 * i) file)) in
+    let long : length w ≡ k = length_table k _ in
+    let past : k ≤ j → get_or w j 0 ≡ 0 = λ p. get_or-eq_default w 0 {n = j} (rw long p) in
+    grind (arith, past, get_or_table k (λ i. number 4 (drop (at + 4 * i) file)) j 0, number_lt 4 (drop (at + 4 * j) file) (below_drop (at + 4 * j) file h))
 
-pub sound : Sound
+sound : Sound
 unfolding is_layout offsets_match layout
 sound file h ok =
     let one = split _ _ ok in
@@ -148,7 +142,7 @@ module _ (C N R : ℕ) (ws : List ℕ) where
         (both (eq-eqb (length (layout C N R ws)) (file_length C N) (omega (arith, length_layout, k.full)))
         (each_all C _ (λ c b. eq-eqb _ _ (own_offset c b))))))))
 
-pub complete : Complete
+complete : Complete
 complete file channels frames rate samples k =
     let e = k.laid_out in
     let own : IsClip (layout channels frames rate samples) channels frames rate samples =
@@ -156,3 +150,6 @@ complete file channels frames rate samples k =
     in
     rw e
     (accepted channels frames rate samples own, channels_read channels frames rate samples own, frames_read_lem channels frames rate samples own, rate_read channels frames rate samples own, own_frames channels frames rate samples own)
+
+pub round_trip : ClipFile
+round_trip = (sound, complete)

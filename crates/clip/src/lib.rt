@@ -29,6 +29,7 @@ fn byte_at(file: &[u8], at: usize) -> u8
 }
 
 // The N bytes from a place on.
+#[tactic(auto, using(lists::specs::Table::filled_none, lists::specs::Table::filled_more))]
 fn bytes_at<const N: usize>(file: &[u8], at: usize) -> [u8; N]
     requires { at + N < 18446744073709551616 }
     ensures { result ≡ table N (λ i. get_or file.now (at + i) 0) }
@@ -40,6 +41,8 @@ fn bytes_at<const N: usize>(file: &[u8], at: usize) -> [u8; N]
     bytes
 }
 
+// Two readers over one `bytes_at`: `from_le_bytes` is each type's own, and no trait has it.
+#[tactic(auto, using(crate::proofs::Numbers::number_two), unfolding(lists::specs::Table::table))]
 fn u16_at(file: &[u8], at: usize) -> u16
     requires { at < 4294967296 }
     ensures { result ≡ number_at 2 file.now at }
@@ -47,6 +50,7 @@ fn u16_at(file: &[u8], at: usize) -> u16
     u16::from_le_bytes(bytes_at(file, at))
 }
 
+#[tactic(auto, using(crate::proofs::Numbers::number_two, crate::proofs::Numbers::number_four), unfolding(lists::specs::Table::table))]
 fn u32_at(file: &[u8], at: usize) -> u32
     requires { at < 4294967296 }
     ensures { result ≡ number_at 4 file.now at }
@@ -54,7 +58,9 @@ fn u32_at(file: &[u8], at: usize) -> u32
     u32::from_le_bytes(bytes_at(file, at))
 }
 
-// Whether offset c is where channel c starts, for each channel.
+// Whether offset c is where channel c starts, for each channel. A loop: with
+// `(0..channels).all(..)` the result is not proved ("`search` gave up at one of its limits").
+#[tactic(auto, using(crate::proofs::Numbers::rows_bound, crate::proofs::Each::each_more), unfolding(crate::specs::Reading::each, crate::specs::Reading::offsets_match))]
 fn offsets_match(file: &[u8], channels: usize, frames: usize) -> bool
     requires { (channels < 65536) × (frames < 4294967296) }
     ensures { result ≡ offsets_match file.now channels frames }
@@ -110,6 +116,7 @@ pub fn read_clip(file: &[u8]) -> Result<ClipHeader, Refusal>
 }
 
 // Stores the numbers that stand in `file` from `start` on.
+#[tactic(auto, using(lists::specs::Table::filled_none, lists::specs::Table::filled_more, lists::specs::Table::filled_end))]
 fn read_words(file: &[u8], start: usize, out: &mut [u32])
     requires { start + 4 * length out.old < 4294967294 }
     ensures { out.new ≡ frames_from file.now start (length out.old) }
@@ -120,7 +127,7 @@ fn read_words(file: &[u8], start: usize, out: &mut [u32])
 }
 
 // Stores a clip's frames, channel after channel, in a slice of just their number.
-#[tactic(auto, unfolding(crate::specs::Reading::room_checked, crate::specs::Reading::frames_out))]
+#[tactic(auto, using(crate::proofs::Accepted::accepted), unfolding(crate::specs::Reading::room_checked, crate::specs::Reading::frames_out))]
 pub fn read_frames(file: &[u8], out: &mut [u32]) -> Result<ClipHeader, Refusal>
     ensures { (result ≡ frames_read file.now (length out.old))
         × (out.new ≡ frames_out result file.now out.old) }
@@ -134,6 +141,7 @@ pub fn read_frames(file: &[u8], out: &mut [u32]) -> Result<ClipHeader, Refusal>
 }
 
 // The reader accepts exactly the bytes of the layout, and reads what they were made of.
+#[tactic(auto, using(crate::proofs::RoundTrip::round_trip))]
 pub fn clip_file()
     ensures { ClipFile }
 {}

@@ -2,4 +2,6 @@
 mod Rule
 mod Signed
 mod Quotient
+mod Single
+mod Exact
 pub mod Range

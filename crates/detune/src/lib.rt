@@ -11,6 +11,7 @@ mod table;
 use buffer::Refusal;
 
 // Entry c of the table.
+#[tactic(auto, unfolding(crate::specs::Table::entries))]
 fn entry(c: usize) -> u32
     requires { c < 1200 }
     ensures { result ≡ entry c }
@@ -19,6 +20,7 @@ fn entry(c: usize) -> u32
 }
 
 // Cents counted from −12,000, or none outside −12,000 to 12,000.
+#[tactic(auto, using(crate::proofs::Signed::low, crate::proofs::Signed::high, crate::proofs::Signed::inside), unfolding(crate::specs::Counted::counted))]
 fn counted(cents: i32) -> Option<usize>
     ensures { result ≡ counted cents }
 {
@@ -39,7 +41,7 @@ pub fn is_bad_cents(cents: i32) -> bool
 // The factor, or a refusal of cents outside −12,000 to 12,000. Counted from 10 octaves below, the
 // octaves are a quotient, and entry × 2^octaves is a whole number below 2^53; so both steps are
 // exact.
-#[tactic(auto, unfolding(crate::specs::Counted::counted, crate::specs::Detune::factored))]
+#[tactic(auto, using(crate::proofs::Quotient::limit), unfolding(crate::specs::Counted::counted, crate::specs::Detune::factored))]
 pub fn factor(cents: i32) -> Result<f64, Refusal>
     ensures { result ≡ factored cents }
 {
@@ -49,11 +51,13 @@ pub fn factor(cents: i32) -> Result<f64, Refusal>
 }
 
 // The table obeys the rule, and no other does.
+#[tactic(auto, using(crate::proofs::Single::the_table))]
 pub fn the_table()
     ensures { TheTable }
 {}
 
 // The factor is exact.
+#[tactic(auto, using(crate::proofs::Exact::is_exact))]
 pub fn factor_is_exact()
     ensures { Exact }
 {}

@@ -12,6 +12,7 @@ pub fn frame_or_zero(channel: &[u32], k: usize) -> u32
 }
 
 // Stores the frames of `from` in `to` from its start on, as many as both have: `to` keeps its others.
+#[tactic(auto, using(lists::specs::Parts::drop_min, std::proofs::lemmas::List::take_min), unfolding(lists::specs::Table::over))]
 pub fn copy_frames(to: &mut [u32], from: &[u32])
     ensures { to.new ≡ over from.now to.old }
 {

@@ -14,6 +14,7 @@ ghost use Rattle.fused.specs.Sticky.{jam, Room, Window};
 use rounding::{digits_of, is_finite, is_regular, place_of, rounded};
 
 // A shift to the right with a sticky digit.
+#[tactic(auto, using(crate::proofs::Jam::jam_at, crate::proofs::Jam::lost))]
 fn jammed(v: u128, n: u64) -> u128
     requires { 1 ≤ n }
     ensures { result ≡ jam v (2 ^ n) }
@@ -42,6 +43,7 @@ fn aligned(v: u128, e: u64, j: u64) -> u128
 const INFINITY: u64 = 0x7ff0_0000_0000_0000;
 
 // The f64 pattern of h * 2^t units of 2^-2148, h having its top digit set.
+#[tactic(auto, using(crate::proofs::Double::high, crate::proofs::Double::middle))]
 fn packed(h: u64, t: u64) -> u64
     requires { (2 ^ 63 ≤ h) × (t ≤ 5000) }
     ensures { result ≡ to_bits binary64 (round binary64 false (h * 2 ^ t) (2 ^ 2148)) }
@@ -67,6 +69,7 @@ fn finished(s: bool, v: u128, j: u64) -> u64
 }
 
 // The sum of two numbers at the place j, each with a sign, as an f64 pattern.
+#[tactic(auto, using(rounding::proofs::Sum::sum_alike))]
 fn combined(s: bool, m: u128, t: bool, n: u128, j: u64) -> u64
     requires { (0 < m) × (m < 2 ^ 126) × (n < 2 ^ 126) × (200 ≤ j) × (j ≤ 4500) }
     ensures { result ≡ to_bits binary64 (sum binary64 s (m * 2 ^ j) t (n * 2 ^ j) (2 ^ 2149)) }
@@ -98,6 +101,7 @@ pub(super) fn is_negative(b: u64) -> bool
 }
 
 // The pattern of a * b + c, for the patterns of finite values of which the first two are not zero.
+#[tactic(auto, unfolding(rounding::specs::Fields::place))]
 fn fused(a: u64, b: u64, c: u64) -> u64
     requires { (field binary64 a < 2047) × (field binary64 b < 2047) × (field binary64 c < 2047)
         × (0 < digits binary64 a) × (0 < digits binary64 b) }
@@ -115,6 +119,7 @@ fn fused(a: u64, b: u64, c: u64) -> u64
 }
 
 // a * b + c, rounded once. Where the product is a NaN, an infinity or a zero, it is exact.
+#[tactic(auto, using(crate::proofs::Finite::of_finite, crate::proofs::Product::irregular, crate::proofs::Product::not_finite, crate::proofs::Product::sum_no_nan, crate::proofs::Product::sum_fits, rounding::proofs::Read::no_nan_bits), unfolding(rounding::specs::Rounding::regular))]
 pub fn fma(a: f64, b: f64, c: f64) -> f64
     ensures { result ≡ fma binary64 a b c }
 {

@@ -27,6 +27,7 @@ fn is_normal(bits: u64) -> bool
 // has no tie close to it. 29 digits are dropped. `past` counts the patterns that are close to no
 // tie, from the first one above a tie. Up to half way to the next tie the guard bit is set, and
 // digits below it are too: with no tie close, the sticky bit is set wherever the guard is.
+#[tactic(auto, using(rounding::proofs::Raised::raise_le, crate::proofs::Untied::apart))]
 fn untied(bits: u64) -> Option<u64>
     ensures { IfSome result (Apart bits) }
 {
@@ -66,6 +67,7 @@ fn joined(v: u64, x: u64, taken: bool) -> u64
 // tell how far the sum is from the tie beside it, for it is near the pattern `size`: `above` is that
 // distance and half of an f64's last digit. The sum as an f64 has its guard bit set where it is not
 // below the tie, and its sticky bit where it is not on it.
+#[tactic(auto, using(rounding::proofs::Raised::raise_le, crate::proofs::Side::sided))]
 fn beside(size: u64, j: u64, p: bool, q: bool, m: u64, c: u64) -> u64
     requires { Beside size × (1 ≤ j) × (j ≤ 50) }
     ensures { Sided size j p q m c result }

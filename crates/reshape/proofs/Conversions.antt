@@ -1,16 +1,20 @@
--- What is known of a buffer that a conversion doesn't only relabel. Assumes nothing.
-use Rattle.std.proofs.Common.{◌≡◌, ℕ, ◌≤◌, Bool, true, false, ◌||◌, eqb, arith}
-use lib.Ieee.{Float}
-use borrow.Author.Tests.{eqb-false}
-use Rattle.rounding.specs.Near.{float_eq, rate_tolerance}
-use Rattle.buffer.specs.declared.Shape.{Shape}
-use Rattle.reshape.specs.Converting.{relabels}
+-- What antt computes of a conversion. Assumes nothing.
+use Rattle.std.proofs.Common.{◌≡◌, pos, refl}
+use lib.Ieee.{binary32, round, sum, add, sub, mul, div, neg, lt, eq, le, of_int, of_bits, to_bits, to_unsigned}
+use Rattle.rounding.specs.Rounding.{floor, ceil, convert, magnitude}
+use Rattle.rounding.specs.Near.{float_eq}
+use Rattle.lists.specs.Rows.{rows}
+use Rattle.lists.specs.Table.{table}
+use Rattle.buffer.specs.Limits.{valid_shape, valid_rate}
+use Rattle.reshape.specs.Known.{KnownReshape}
+use Rattle.reshape.specs.Converting.{relabels, converted_length, converted_shape, playhead, fraction, mixed, previous, resampled, converted_samples}
 
--- it has a frame
-pub some_frame : (shape : Shape) (rate : Float) → relabels shape rate ≡ false → 1 ≤ shape.frames
-unfolding relabels
-some_frame shape rate h = go (float_eq shape.rate rate rate_tolerance) shape.frames h
-  where
-    go : (t : Bool) (n : ℕ) → (t || eqb n 0) ≡ false → 1 ≤ n
-    go true n h = let z : ◌≡◌ {A = ℕ} 0 1 = cc in omega arith
-    go false n h = let some = eqb-false n 0 h in omega arith
+-- 1, by its bits and as a whole number
+pub one : of_bits binary32 0x3f80_0000 ≡ of_int binary32 (pos 1)
+unfolding of_bits of_int
+one = refl
+
+pub known_frames : KnownReshape
+unfolding KnownReshape valid_shape valid_rate relabels converted_length converted_shape playhead fraction mixed previous resampled converted_samples
+    floor ceil convert magnitude float_eq rows table round sum add sub mul div neg lt eq le of_int of_bits to_bits to_unsigned
+known_frames = (refl, refl)

@@ -1,4 +1,3 @@
 -- The laws that the proofs of `reshape` share.
-mod Results
 mod Partings
 mod Conversions

@@ -38,7 +38,7 @@ splits shape len point first rest h =
     }
 
 -- the rest of each channel is all that is left of it
-pub rest-is : (samples : List ℕ) (frames point count : ℕ) → point ≤ frames → length samples ≡ frames * count
+pub rest_is : (samples : List ℕ) (frames point count : ℕ) → point ≤ frames → length samples ≡ frames * count
     → rows count (λ c. take (frames - point) (drop point (channel samples frames c))) ≡ rows count (λ c. drop point (channel samples frames c))
-rest-is samples frames point count within full =
+rest_is samples frames point count within full =
     rows_same count _ _ (λ k h. take_all (frames - point) (drop point (channel samples frames k)) (simp length-drop (omega (arith, length_channel samples frames count k full h))))

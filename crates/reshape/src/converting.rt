@@ -68,7 +68,7 @@ fn playhead(n: usize, m: usize, i: usize) -> f64
 }
 
 // The frame k of the way from one frame to the next.
-#[tactic(auto, unfolding(crate::specs::Converting::mixed))]
+#[tactic(auto, using(crate::proofs::Conversions::one), unfolding(crate::specs::Converting::mixed))]
 fn mixed(k: f32, frame: u32, next: u32) -> u32
     ensures { result ≡ mixed k frame next }
 {
@@ -94,6 +94,7 @@ fn resampled(frames: &[u32], m: usize, i: usize) -> u32
 }
 
 // Converts one channel into its part of the output.
+#[tactic(auto, using(lists::specs::Table::filled_none, lists::specs::Table::filled_more, lists::specs::Table::filled_end))]
 fn resample_channel(part: &mut [u32], frames: &[u32])
     requires { 1 ≤ length frames.now }
     ensures { part.new ≡ table (length part.old) (resampled frames.now (length part.old)) }
@@ -105,6 +106,7 @@ fn resample_channel(part: &mut [u32], frames: &[u32])
 }
 
 // Converts each channel into its own part of `size` frames of the output.
+#[tactic(auto, using(lists::specs::Table::length_table))]
 fn resample_channels(out: &mut [u32], channels: Channels, size: usize)
     requires some { 1 ≤ channels.frames }
     requires fits { length out.old ≡ size * channels.count }
@@ -116,7 +118,7 @@ fn resample_channels(out: &mut [u32], channels: Channels, size: usize)
 }
 
 // Converts the buffer of `samples` to another rate, into `out`.
-#[tactic(auto, unfolding(crate::specs::Converting::converted_shape, crate::specs::Converting::converted_samples, crate::specs::Fitting::fitted))]
+#[tactic(auto, unfolding(crate::specs::Converting::converted_shape, crate::specs::Converting::converted_samples, crate::specs::Converting::relabels, crate::specs::Fitting::fitted))]
 pub fn convert(shape: Shape, samples: &[u32], rate: f32, out: &mut [u32]) -> Result<Shape, Refusal>
     ensures { (result ≡ fitted (converted_shape shape (length samples.now) rate) (length out.old))
         × (out.new ≡ stored (answer_of result) (converted_samples shape samples.now rate) out.old) }

@@ -1,5 +1,5 @@
 // Extend: a buffer joined to another, channel by channel.
-ghost use Rattle.std.specs.Prelude.{◌≡◌, ◌+◌, ◌*◌, ◌≤◌, ◌++◌, length};
+ghost use Rattle.std.specs.Prelude.{◌≡◌, ◌+◌, ◌*◌, ◌≤◌, ◌++◌, length, IfOk};
 ghost use Rattle.lists.specs.Rows.{rows};
 ghost use Rattle.buffer.specs.Channels.{channel};
 ghost use Rattle.buffer.specs.Answers.{answer_of, stored};
@@ -13,7 +13,8 @@ use buffer::{Channels, MAX_FRAMES, Refusal, Shape, check_rate, check_shape};
 // The shape of `a`, which has `m` samples, extended by `b`, which has `n`.
 #[tactic(auto, unfolding(crate::specs::Joining::extended_shape))]
 pub fn extended_shape(a: Shape, m: usize, b: Shape, n: usize) -> Result<Shape, Refusal>
-    ensures { result ≡ extended_shape a m b n }
+    ensures answer { result ≡ extended_shape a m b n }
+    ensures joined { IfOk result (λ made. (made.channels ≡ a.channels) × (made.frames ≡ a.frames + b.frames)) }
 {
     check_shape(a.channels, a.frames, m)?;
     check_shape(b.channels, b.frames, n)?;

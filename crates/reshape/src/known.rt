@@ -3,6 +3,7 @@
 ghost use Rattle.reshape.specs.Known.{KnownReshape};
 
 // The known frames about conversion.
+#[tactic(auto, using(crate::proofs::Conversions::known_frames))]
 pub fn known_reshape()
     ensures { KnownReshape }
 {}

@@ -1,6 +1,6 @@
 // Extend, split and convert: buffers of another shape, each stored in a lent slice of just its
 // length. Each public call answers for every input: with the shapes of its results, or with the
-// number of the refusal in document 01's table, and all lent memory unchanged.
+// refusal of document 01's table, and all lent memory unchanged.
 #![tactic(auto)]
 
 mod converting;

@@ -2,7 +2,8 @@
 ghost use Rattle.std.specs.Prelude.{◌≡◌, ℕ, ◌*◌, ◌<◌, List, length};
 ghost use Rattle.lists.specs.Rows.{rows};
 
-// Writes each of `count` parts of `size` frames, one after another, by a call with its number.
+// Writes each of `count` parts of `size` frames, one after another, by a call with its number. By index,
+// since `chunks_exact_mut` asks that a part has a frame.
 pub(crate) fn write_parts<F: Fn(&mut [u32], usize)>(
     out: &mut [u32],
     size: usize,

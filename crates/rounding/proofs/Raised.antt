@@ -1,6 +1,6 @@
 -- The raise: what is kept of a number and the raise are the number rounded to nearest even. Nothing here is about floats or about a width.
 -- Assumes nothing.
-use Rattle.std.proofs.Common.{◌≡◌, ℕ, zero, suc, ◌+◌, ◌*◌, ◌/◌, ◌%◌, ◌^◌, ◌<◌, ◌≤◌, Bool, true, false, not, eqb, ◌⊎◌, sym, refl, ap, ◌∙◌, subst, inl, inr, mod-lt, mul_comm, div-add-mod', div-one, arith, pow_pos, ne_eqb}
+use Rattle.std.proofs.Common.{◌≡◌, ℕ, zero, suc, ◌+◌, ◌-◌, ◌*◌, ◌/◌, ◌%◌, ◌^◌, ◌<◌, ◌≤◌, Bool, true, false, not, eqb, ◌⊎◌, sym, refl, ap, ◌∙◌, subst, inl, inr, mod-lt, mul_comm, div-add-mod', div-one, arith, pow_pos, ne_eqb}
 use mathlib.Core.Bool.{false≢true}
 use Prim.Native.Nat.{compare, Ordering}
 use native.Mathlib.Nat.{pow-succ', div-div-eq-div-mul}
@@ -10,7 +10,7 @@ use lib.Ieee.Nearest.{closest}
 use Rattle.rounding.specs.Laws.{Within}
 use Rattle.rounding.specs.Raise.{raise, raised, guard, sticky, Raises}
 use Rattle.rounding.proofs.Closest.{Says, says, compare_is, closest_one, closest_near}
-use Rattle.rounding.proofs.Sticky.{no_two}
+use Rattle.rounding.proofs.Sticky.{no_two, lost, power}
 
 -- ---- the three digits
 -- a tie goes up by the last digit
@@ -44,6 +44,16 @@ closest_raise n t B =
     ap (λ (x : ℕ). nearest x (compare (n % (2 * t) * 2) (2 * t))) (ap (λ (x : ℕ). n / x) (mul_comm 2 t) ∙ sym (div-div-eq-div-mul n t 2))
     ∙ ap (λ (x : ℕ). nearest (n / t / 2) (compare (x * 2) (2 * t))) (mod-mul n (pow_pos 1) B)
     ∙ chosen (n / t / 2) t (n / t % 2) (n % t) (omega arith) (mod-lt n B)
+
+-- the same by shifts of a number of 64 digits: what is shifted back is n where nothing is left below the guard
+pub closest_shift : (n e : ℕ) → n < 2 ^ 64 → 1 ≤ e
+    → n / 2 ^ (e - 1) / 2 + raise (eqb (n / 2 ^ (e - 1) % 2) 1) (not (eqb n (n / 2 ^ (e - 1) * 2 ^ (e - 1) % 2 ^ 64))) (eqb (n / 2 ^ (e - 1) / 2 % 2) 1) ≡ closest n (2 ^ e)
+closest_shift n e own some =
+    let t = 2 ^ (e - 1) in
+    let h = n / t in
+    ap (λ (x : Bool). h / 2 + raise (eqb (h % 2) 1) (not x) (eqb (h / 2 % 2) 1)) (lost n t own)
+    ∙ sym (closest_raise n t (pow_pos (e - 1)))
+    ∙ ap (λ (x : ℕ). closest n x) (power e some)
 
 -- ---- the claims
 rounds : (n e : ℕ) → raised n e ≡ closest n (2 ^ e)

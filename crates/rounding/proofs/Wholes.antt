@@ -1,7 +1,7 @@
 -- The whole numbers below, above and nearest to a value, by any fraction that the value equals, in a format given as a parameter; and where a value is whole already.
 -- Assumes nothing.
-use Rattle.std.proofs.Common.{◌≡◌, ℕ, zero, suc, ◌+◌, ◌-◌, ◌*◌, ◌/◌, ◌%◌, ◌^◌, ◌<◌, ◌≤◌, Bool, true, false, cond, not, T, ◌⊎◌, pos, sym, refl, ap, ◌∙◌, subst, inl, inr, le_trans, le_of_eq, le_of_suc-le-suc, mul-le-mul_right, mod-lt, zero-lt-suc, mul_assoc, suc-mul, mul_comm, div-lt_iff_lt-mul, add-mul, le_antisymm, eq-or-lt_of_le, mul-le-mul_left, mul-pos, div-add-mod', zero-add, mul-one, mul-add, div-le_self, mul_right_comm, le_of_mul-le-mul_right, div-one, mul_left_comm, arith, le→leb, pow_pos, pow-add, le-leb}
-use native.Mathlib.Nat.{div-div-eq-div-mul, add-div_right}
+use Rattle.std.proofs.Common.{◌≡◌, ℕ, zero, suc, ◌+◌, ◌-◌, ◌*◌, ◌/◌, ◌%◌, ◌^◌, ◌<◌, ◌≤◌, Bool, true, false, cond, not, T, ◌⊎◌, pos, sym, refl, ap, ◌∙◌, subst, inl, inr, le_trans, le_of_eq, le_of_suc-le-suc, lt_of_lt_of_le, mod-eq_of_lt, mul-le-mul_right, mod-lt, zero-lt-suc, mul_assoc, suc-mul, mul_comm, div-lt_iff_lt-mul, add-mul, le_antisymm, eq-or-lt_of_le, mul-le-mul_left, mul-pos, div-add-mod', zero-add, mul-one, mul-add, div-le_self, mul_right_comm, le_of_mul-le-mul_right, div-one, mul_left_comm, arith, le→leb, pow_pos, pow_mono, pow-add, le-leb}
+use native.Mathlib.Nat.{div-div-eq-div-mul, add-div_right, div-eq_of_lt}
 use lib.Arith.{digits_div}
 use lib.Pow.{shr_le}
 use lib.Ieee.{Float, nan, inf, fin, Format, binary64, prec, low, ones, up, down, round, neg, fits, is_nan, of_int, in_float, of_bits, to_bits}
@@ -15,7 +15,7 @@ use Rattle.rounding.specs.Sticky.{some}
 use Rattle.rounding.specs.Rounding.{cut, lifted, half_up, floor, ceil, round_away}
 use Rattle.rounding.proofs.Exact.{value_same, round_same_float}
 use Rattle.rounding.proofs.Signs.{round_not}
-use Rattle.rounding.proofs.Sticky.{power}
+use Rattle.rounding.proofs.Sticky.{power, rest}
 use Rattle.rounding.proofs.Read.{read, read_inf, digits_lt, field_le, no_nan_bits}
 
 -- ---- equal fractions have the same whole numbers about them
@@ -148,6 +148,18 @@ cut_le d u = div-le_self d u
 pub lifted_le_self : (d u : ℕ) → 0 < u → lifted d u ≤ d
 lifted_le_self d u B = lifted_le d u d B (le_trans (le_of_eq (sym (mul-one d))) (mul-le-mul_left d B))
 
+-- by shifts of a number of 64 digits
+pub cut_past : (d s : ℕ) → d < 2 ^ 64 → 64 ≤ s → 0 ≡ cut d (2 ^ s)
+cut_past d s h g = sym (div-eq_of_lt (lt_of_lt_of_le h (pow_mono g)))
+
+pub lifted_shift : (d s : ℕ) → d < 2 ^ 64 → d / 2 ^ s + some (d - d / 2 ^ s * 2 ^ s % 2 ^ 64) ≡ lifted d (2 ^ s)
+lifted_shift d s h = ap (λ (x : ℕ). d / 2 ^ s + some x) (rest d (2 ^ s) h) ∙ sym (lifted_some d (2 ^ s) (pow_pos s))
+
+pub lifted_past : (d s : ℕ) → d < 2 ^ 64 → 64 ≤ s → some d ≡ lifted d (2 ^ s)
+lifted_past d s h g =
+    let l = lt_of_lt_of_le h (pow_mono g) in
+    sym (lifted_some d (2 ^ s) (pow_pos s) ∙ ap (λ (x : ℕ). x + some (d % 2 ^ s)) (div-eq_of_lt l) ∙ ap (λ (x : ℕ). 0 + some x) (mod-eq_of_lt l) ∙ zero-add (some d))
+
 -- ---- an f64 x whose place p is below that of 1: x is d / 2 ^ (1074 - p), and the code hands back a whole number with x's sign
 abbrev pub signed : Bool → ℕ → Float
 signed false n = of_int binary64 (pos n)
@@ -162,6 +174,13 @@ below_ones : (b : ℕ) → place binary64 b < 1074 → field binary64 b < 2047
 unfolding place
 below_ones b h = omega arith
 
+-- what the code's test of the sign's bit tells
+plus_sign : (b : ℕ) → b < 2 ^ 63 → negative binary64 b ≡ false
+plus_sign b h = lt-leb (2 ^ 63) b h
+
+minus_sign : (b : ℕ) → 2 ^ 63 ≤ b → negative binary64 b ≡ true
+minus_sign b h = le-leb (2 ^ 63) b h
+
 module _ (x : Float) (held : T (fits binary64 x)) (p d : ℕ) (P : p ≡ place binary64 (to_bits binary64 x)) (D : d ≡ digits binary64 (to_bits binary64 x)) (small : p < 1074) where
   part : HasValue x (negative binary64 (to_bits binary64 x)) d (2 ^ (1074 - p))
   part =
@@ -173,22 +192,35 @@ module _ (x : Float) (held : T (fits binary64 x)) (p d : ℕ) (P : p ≡ place b
       (subst (λ (k : ℕ). HasValue (of_bits binary64 b) (negative binary64 b) (d * 2 ^ k) (2 ^ 1074)) (sym P)
       (subst (λ (k : ℕ). HasValue (of_bits binary64 b) (negative binary64 b) (k * 2 ^ place binary64 b) (2 ^ 1074)) (sym D) (read binary64 b (below_ones b (subst (λ (k : ℕ). k < 1074) P small)))))))
 
-  pub floor_part : (s : Bool) (n : ℕ) → negative binary64 (to_bits binary64 x) ≡ s → n ≡ cond s (lifted d (2 ^ (1074 - p))) (cut d (2 ^ (1074 - p))) → signed s n ≡ floor binary64 x
+  floor_part : (s : Bool) (n : ℕ) → negative binary64 (to_bits binary64 x) ≡ s → n ≡ cond s (lifted d (2 ^ (1074 - p))) (cut d (2 ^ (1074 - p))) → signed s n ≡ floor binary64 x
   floor_part s n S N =
       signed_is s n ∙ ap (λ (k : ℕ). round binary64 s k 1) N
       ∙ sym (floor_value binary64 x s d (2 ^ (1074 - p)) (pow_pos (1074 - p)) (subst (λ (t : Bool). HasValue x t d (2 ^ (1074 - p))) S part))
 
-  pub away_part : (s : Bool) (n : ℕ) → negative binary64 (to_bits binary64 x) ≡ s → n ≡ half_up d (2 ^ (1074 - p)) → signed s n ≡ round_away binary64 x
+  away_part : (s : Bool) (n : ℕ) → negative binary64 (to_bits binary64 x) ≡ s → n ≡ half_up d (2 ^ (1074 - p)) → signed s n ≡ round_away binary64 x
   away_part s n S N =
       signed_is s n ∙ ap (λ (k : ℕ). round binary64 s k 1) N
       ∙ sym (away_value binary64 x s d (2 ^ (1074 - p)) (pow_pos (1074 - p)) (subst (λ (t : Bool). HasValue x t d (2 ^ (1074 - p))) S part))
 
--- what the code's test of the sign's bit tells
-pub plus_sign : (b : ℕ) → b < 2 ^ 63 → negative binary64 b ≡ false
-plus_sign b h = lt-leb (2 ^ 63) b h
+-- by the code's test of the sign's bit
+module _ (x : Float) (held : T (fits binary64 x)) (small : place binary64 (to_bits binary64 x) < 1074) where
+  abbrev own : ℕ
+  own = digits binary64 (to_bits binary64 x)
 
-pub minus_sign : (b : ℕ) → 2 ^ 63 ≤ b → negative binary64 b ≡ true
-minus_sign b h = le-leb (2 ^ 63) b h
+  abbrev unit : ℕ
+  unit = 2 ^ (1074 - place binary64 (to_bits binary64 x))
+
+  pub floor_above : (n : ℕ) → to_bits binary64 x < 2 ^ 63 → n ≡ cut own unit → of_int binary64 (pos n) ≡ floor binary64 x
+  floor_above n s e = floor_part x held _ _ refl refl small false n (plus_sign _ s) e
+
+  pub floor_below : (n : ℕ) → 2 ^ 63 ≤ to_bits binary64 x → n ≡ lifted own unit → neg (of_int binary64 (pos n)) ≡ floor binary64 x
+  floor_below n s e = floor_part x held _ _ refl refl small true n (minus_sign _ s) e
+
+  pub away_above : (n : ℕ) → to_bits binary64 x < 2 ^ 63 → n ≡ half_up own unit → of_int binary64 (pos n) ≡ round_away binary64 x
+  away_above n s e = away_part x held _ _ refl refl small false n (plus_sign _ s) e
+
+  pub away_below : (n : ℕ) → 2 ^ 63 ≤ to_bits binary64 x → n ≡ half_up own unit → neg (of_int binary64 (pos n)) ≡ round_away binary64 x
+  away_below n s e = away_part x held _ _ refl refl small true n (minus_sign _ s) e
 
 -- ---- an f64 whose place is at or above that of 1, and a NaN: the code hands back x
 module _ (x : Float) (held : T (fits binary64 x)) (no : T (not (is_nan x))) (high : 1074 ≤ place binary64 (to_bits binary64 x)) where

@@ -49,6 +49,7 @@ impl BinaryFloat for f32 {
     }
 
     // One body for both types would ask the trait for the pattern's `%` and mask, and be no plainer.
+    #[tactic(auto, using(crate::proofs::Read::told_no_nan, crate::proofs::Read::told_nan, crate::proofs::SignBit::low_no_nan, crate::proofs::SignBit::of_low, crate::proofs::SignBit::of_nan))]
     fn magnitude(self) -> f32 {
         if self.is_nan() {
             self
@@ -75,6 +76,7 @@ impl BinaryFloat for f64 {
         std::num::f64_to_bits_with_nan(self)
     }
 
+    #[tactic(auto, using(crate::proofs::Read::told_no_nan, crate::proofs::Read::told_nan, crate::proofs::SignBit::low_no_nan, crate::proofs::SignBit::of_low, crate::proofs::SignBit::of_nan))]
     fn magnitude(self) -> f64 {
         if self.is_nan() {
             self
@@ -84,9 +86,10 @@ impl BinaryFloat for f64 {
     }
 }
 
-// The f64 of an f32's pattern, which is exact. `from_pattern` and then std's widening would test for
-// the NaN twice in the compiled code, and this is called for each frame.
-#[tactic(auto, unfolding(crate::specs::Rounding::widen))]
+// The f64 of an f32's pattern, which is exact. `f64::from` of `from_pattern` would test for the NaN twice in
+// the compiled code, and this is called for each frame: a sub-sample block took 3 to 5 % longer with one
+// channel, and 11 to 20 % with 32 (1.2 ns a sample).
+#[tactic(auto, using(crate::proofs::Read::above_is_nan, crate::proofs::Read::not_above_no_nan), unfolding(crate::specs::Rounding::widen))]
 pub fn widen(bits: u32) -> f64
     ensures { result ≡ widen bits }
 {

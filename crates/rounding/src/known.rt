@@ -15,6 +15,7 @@ pub fn rounding_laws()
 {}
 
 // Document 02, 2.3: what is kept and the raise are the number rounded to nearest even.
+#[tactic(auto, using(crate::proofs::Raised::raises))]
 pub fn the_raise()
     ensures { Raises }
 {}

@@ -47,6 +47,7 @@ fn reduced(a: f64, b: f64) -> f64
 }
 
 // a less the multiple of b that a / b cuts to, with the sign of a.
+#[tactic(auto, using(crate::proofs::Sizes::by_size, crate::proofs::Sizes::none_by_dividend, crate::proofs::Sizes::none_by_divisor, crate::proofs::Sizes::size_positive, crate::proofs::Sizes::is_negative, crate::proofs::Sizes::is_positive))]
 pub fn rem(a: f64, b: f64) -> f64
     ensures { result ≡ rem binary64 a b }
 {

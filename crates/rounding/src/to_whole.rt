@@ -7,6 +7,7 @@ ghost use Rattle.rounding.specs.Rounding.{floor, ceil, round_away, truncate, cut
 use super::bits::{digits_of, place_of, some};
 
 // d / 2^s, cut to a whole number.
+#[tactic(auto, using(crate::proofs::Wholes::cut_past))]
 fn cut(d: u64, s: u64) -> u64
     ensures { result ≡ cut d (2 ^ s) }
 {
@@ -14,6 +15,7 @@ fn cut(d: u64, s: u64) -> u64
 }
 
 // d / 2^s, raised to a whole number.
+#[tactic(auto, using(crate::proofs::Wholes::lifted_shift, crate::proofs::Wholes::lifted_past))]
 fn lifted(d: u64, s: u64) -> u64
     requires { (d < 2 ^ 53) × (1 ≤ s) }
     ensures { result ≡ lifted d (2 ^ s) }
@@ -27,6 +29,7 @@ fn lifted(d: u64, s: u64) -> u64
 }
 
 // d / 2^s to the nearest whole number, a half going up.
+#[tactic(auto, using(crate::proofs::Sticky::power, crate::proofs::Wholes::half_shift))]
 fn half_up(d: u64, s: u64) -> u64
     requires { (d < 2 ^ 53) × (1 ≤ s) }
     ensures { result ≡ half_up d (2 ^ s) }
@@ -35,6 +38,7 @@ fn half_up(d: u64, s: u64) -> u64
 }
 
 // The largest whole number that is not above x. A zero keeps its sign.
+#[tactic(auto, using(crate::proofs::Read::told_no_nan, crate::proofs::Read::told_nan, crate::proofs::Wholes::cut_le, crate::proofs::Wholes::lifted_le_self, crate::proofs::Wholes::below, crate::proofs::Wholes::cast_fits, crate::proofs::Wholes::floor_above, crate::proofs::Wholes::floor_below, crate::proofs::Wholes::floor_kept, crate::proofs::Wholes::floor_nan))]
 pub fn floor(x: f64) -> f64
     ensures { result ≡ floor binary64 x }
 {
@@ -55,6 +59,7 @@ pub fn floor(x: f64) -> f64
 }
 
 // The smallest whole number that is not below x. A result of 0 has x's sign.
+#[tactic(auto, using(crate::proofs::Wholes::ceil_floor))]
 pub fn ceil(x: f64) -> f64
     ensures { result ≡ ceil binary64 x }
 {
@@ -62,6 +67,7 @@ pub fn ceil(x: f64) -> f64
 }
 
 // The whole number nearest to x, a half going away from zero.
+#[tactic(auto, using(crate::proofs::Read::told_no_nan, crate::proofs::Read::told_nan, crate::proofs::Wholes::half_le, crate::proofs::Wholes::below, crate::proofs::Wholes::cast_fits, crate::proofs::Wholes::away_above, crate::proofs::Wholes::away_below, crate::proofs::Wholes::away_kept, crate::proofs::Wholes::away_nan))]
 pub fn round_away(x: f64) -> f64
     ensures { result ≡ round_away binary64 x }
 {
@@ -77,7 +83,8 @@ pub fn round_away(x: f64) -> f64
     if b < 0x8000_0000_0000_0000 { n } else { -n }
 }
 
-// x without its fraction: 0 for what is negative and for a NaN, and 2^64 - 1 from 2^64 on.
+// x without its fraction: 0 for what is negative and for a NaN, and 2^64 - 1 from 2^64 on. `as` asks
+// that x lies between.
 pub fn truncate(x: f64) -> u64
     ensures { result ≡ truncate x }
 {

@@ -3,7 +3,7 @@ ghost use Rattle.std.specs.Prelude.{◌≡◌};
 ghost use Rattle.std.specs.Float.Ieee.Scale.{finite};
 ghost use Rattle.rounding.specs.Rounding.{regular, whole};
 
-// A whole number as an f64.
+// A whole number as an f64. `as` asks that the number is one, which not every usize is.
 pub fn whole(n: usize) -> f64
     ensures { result ≡ whole n }
 {

@@ -1,4 +1,5 @@
-// Seconds and frame numbers, and the instants of a block of 128 samples. Rates are those of the output.
+// Seconds and frame numbers, and the instants of a block of 128 samples. Rates are those of the
+// output.
 #![tactic(auto)]
 
 ghost use Rattle.std.specs.Prelude.{◌≡◌};
@@ -6,36 +7,31 @@ ghost use Rattle.seconds.specs.Seconds.{dt, block_seconds, block_end};
 
 // Seconds of the context's clock.
 #[repr(C)]
-#[derive(Clone, Copy)]
+#[derive(Clone, Copy, Default)]
 pub struct ContextSeconds(pub f64);
 
 // Seconds within the clip.
 #[repr(C)]
-#[derive(Clone, Copy)]
+#[derive(Clone, Copy, Default)]
 pub struct BufferSeconds(pub f64);
 
 // A frame of the clip, counted from 0.
 #[derive(Clone, Copy)]
 pub struct FrameNumber(pub usize);
 
-// The largest f64: a start or a stop that was not received, and no duration.
+// The largest f64: a start or a stop that was not received, and no duration. No `Option`: document 01
+// and C have this number for none.
 pub const NEVER: f64 = 1.7976931348623157e308;
-
-// An f32 as an f64.
-pub fn widened(x: f32) -> f64
-    ensures { result ≡ x }
-{
-    std::num::f32_to_f64_with_nan(x)
-}
 
 // The seconds from one sample to the next.
 #[tactic(auto, unfolding(crate::specs::Seconds::dt))]
 pub fn sample_seconds(rate: f32) -> f64
     ensures { result ≡ dt rate }
 {
-    1.0 / widened(rate)
+    1.0 / f64::from(rate)
 }
 
+#[tactic(auto, using(crate::proofs::Block::block_of))]
 pub fn block_seconds(rate: f32) -> f64
     ensures { result ≡ block_seconds 128 rate }
 {

@@ -1,7 +1,8 @@
 -- `detune::factor` meets its contract: the quotient is the definition's factor. Assumes nothing.
+-- By hand: `search` gave up at one of its limits, at the f64 of the whole number and at what is returned.
 use mathlib.Core.Path.{◌≡◌, refl, sym, ap, ◌∙◌}
 use mathlib.Core.Bool.{Bool, true, false, cond}
-use Prim.Native.Nat.{ℕ, ◌*◌, ◌/◌, ◌%◌, ◌^◌, ◌≤◌, ◌<◌}
+use Prim.Native.Nat.{ℕ, ◌*◌, ◌/◌, ◌%◌, ◌^◌, ◌<◌}
 use native.Mathlib.Nat.{mod-eq_of_lt, lt_of_lt_of_le}
 use native.Mathlib.Omega.{arith}
 use lib.Dec.{T, le→leb, lit≤}
@@ -13,7 +14,7 @@ use mir.Facts.{to_z-of_z}
 use Rattle.std.specs.Prelude.{Option, Some, None, Ok}
 use Rattle.detune.specs.Counted.{counted, from_lowest}
 use Rattle.detune.specs.Detune.{entry, octaves, above, bad_cents, factor_of, factored}
-use Rattle.detune.proofs.Quotient.{limit, index, below, quotient}
+use Rattle.detune.proofs.Quotient.{index, below, quotient}
 use Rattle.detune.proofs.Rule.{entry_below}
 use Rattle.detune.proofs.factor.Goals as goal
 
@@ -29,9 +30,6 @@ told z k h = go (bad_cents z) h
 module _ (z : ℤ) (k e : ℕ) (r : Option ℕ) (own : SFits w32 z) (read : r ≡ counted (to_z w32 (of_z w32 z))) (some : r ≡ Some k) (of : e ≡ entry (k % 1200)) where
   is : (bad_cents z ≡ false) × (k ≡ from_lowest z)
   is = told z k (sym some ∙ read ∙ ap counted (to_z-of_z {w = w32} {z = z} own))
-
-  few : k ≤ 24000
-  few = let t = limit z is.0 in omega (arith, t, is.1)
 
   entered : e ≡ entry (above z)
   entered = of ∙ ap entry (ap (λ (n : ℕ). n % 1200) is.1 ∙ index z is.0)
@@ -52,11 +50,6 @@ module _ (z : ℤ) (k e : ℕ) (r : Option ℕ) (own : SFits w32 z) (read : r �
   answer : Ok (div binary64 (of_int binary64 (pos (e * 2 ^ (k / 1200) % 18446744073709551616))) (of_bits binary64 4787326403894837248)) ≡ factored z
   unfolding factored factor_of of_bits
   answer = rw (same, is.0) (ap Ok (quotient z e is.0 small ∙ ap (λ (n : ℕ). round binary64 false (n * up (octaves z)) (2 ^ 30 * down (octaves z))) entered))
-
-pub overflow_shl-scaled : goal.overflow_shl-scaled
-overflow_shl-scaled c =
-    let t = few c.args.cents c.in_ok-k.k c.from.result c.counted.result c.ranges.cents c.counted.ensures c.in_ok-k.ensures.ok_part (c.from.ensures ∙ c.entry.ensures) in
-    omega (arith, t)
 
 pub int_to_float-result : goal.int_to_float-result
 int_to_float-result c =

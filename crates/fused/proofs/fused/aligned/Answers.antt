@@ -1,4 +1,5 @@
 -- `fused::fused::aligned` meets its contract: down by `jam_scale`, and up by `jam_whole`. Assumes nothing.
+-- By hand: with laws named on the function `returns-then-e-j`, `returns-else-e-j` are not proved.
 use Rattle.std.proofs.Common.{◌≡◌, ℕ, ◌+◌, ◌-◌, ◌*◌, ◌^◌, ◌<◌, ◌≤◌, sym, ap, ◌∙◌, inl, inr, mul_assoc, mod-eq_of_lt, not-le_of_lt, arith, pow_pos, pow-add}
 use Rattle.fused.specs.Sticky.{jam, Room}
 use Rattle.fused.proofs.Jam.{jam_whole, jam_scale}

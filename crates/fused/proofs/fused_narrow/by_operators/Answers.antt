@@ -1,4 +1,5 @@
 -- `fused::fused_narrow::by_operators` meets its contract. Assumes nothing.
+-- By hand: with laws named on the function some of its 8 goals are not proved.
 use Rattle.std.proofs.Common.{◌≡◌, ℕ, ◌+◌, ◌*◌, ◌/◌, ◌%◌, ◌^◌, ◌<◌, ◌≤◌, true, cond, not, T, ◌⊎◌, ◌∙◌, inl, inr, arith, rules}
 use Rattle.std.proofs.lemmas.Float.{T_from_true}
 use lib.Ieee.{Float, nan, inf, fin, Format, binary32, binary64, add, mul, is_nan, fits, to_bits, unlike}

@@ -1,4 +1,5 @@
 -- `fused::fused_narrow::near_tie` meets its contract. Assumes nothing.
+-- By hand: with laws named on the function `returns` is not proved.
 use Rattle.std.proofs.Common.{refl, arith}
 use Rattle.fused.proofs.Side.{tied}
 use Rattle.fused.proofs.fused_narrow.near_tie.Goals as goal

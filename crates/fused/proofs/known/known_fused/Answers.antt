@@ -1,4 +1,5 @@
 -- `fused::known::known_fused`: antt computes the frame. Assumes nothing.
+-- By hand: without it `returns` is not proved.
 use Rattle.std.proofs.Common.{refl}
 use lib.Ieee.{round, sum}
 use Rattle.fused.specs.Fused.{fma, plus}

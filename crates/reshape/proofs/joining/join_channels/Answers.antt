@@ -1,4 +1,5 @@
 -- `reshape::joining::join_channels` meets its contract: each part is a channel of `first` and one of `second`. Assumes nothing.
+-- By hand: with `even` named on the function, `returns` is not proved.
 use Rattle.std.proofs.Common.{◌≡◌, ℕ, ◌+◌, ◌*◌, ◌<◌, List, ◌++◌, length, ap, ◌∙◌, mul_comm, length-append, arith, rules}
 use Rattle.buffer.specs.Channels.{channel, length_channel}
 use Rattle.reshape.proofs.joining.join_channels.Goals as goal

@@ -1,3 +1,4 @@
+-- By hand: with these laws named on the function, `loop-c-init` and `loop-c-preserved` are not proved.
 use Rattle.std.proofs.Common.{arith, ◌*◌}
 use Rattle.lists.specs.Parts.{length_part}
 use Rattle.lists.specs.Rows.{row_fits, rows_none, rows_turn}

@@ -1,4 +1,5 @@
 -- `rounding::known::known_rounding`: antt computes each of the frames. Assumes nothing.
+-- By hand: without it `returns` is not proved.
 use Rattle.std.proofs.Common.{refl}
 use lib.Ieee.{round, of_bits, to_bits}
 use Rattle.rounding.specs.Known.{KnownRounding}

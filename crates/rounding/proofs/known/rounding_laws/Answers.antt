@@ -1,4 +1,5 @@
 -- `rounding::known::rounding_laws`: the laws, from where they are proved. Assumes nothing.
+-- By hand: with laws named on the function `returns` is not proved.
 use lib.Ieee.Order.{round_mono}
 use Rattle.rounding.proofs.Difference.{sterbenz}
 use Rattle.rounding.proofs.Error.{round_near}

@@ -1,4 +1,5 @@
 -- `rounding::remainder::doubled` meets its contract. Assumes nothing.
+-- By hand: with laws named on the function some of its 4 goals are not proved.
 use Rattle.rounding.proofs.Doubled.{once, up, nearer, enough}
 use Rattle.rounding.proofs.remainder.doubled.Goals as goal
 

@@ -1,4 +1,5 @@
 -- `rounding::remainder::reduced` meets its contract. Assumes nothing.
+-- By hand: with laws named on the function some of its 6 goals are not proved.
 use Rattle.rounding.proofs.Doubled.{start, smaller, kept, taken_off, done}
 use Rattle.rounding.proofs.remainder.reduced.Goals as goal
 

@@ -1,4 +1,5 @@
 -- `rounding::values::is_finite` meets its contract: what is below one infinity and above the other. Assumes nothing.
+-- By hand: without it `returns-then-x`, `returns-else-x` are not proved.
 use Rattle.std.proofs.Common.{◌≡◌, true, false, refl, ◌∙◌, true≢false}
 use mathlib.Core.Bool.{false≢true}
 use lib.Ieee.{Float, nan, inf, fin, lt, neg, div, of_bits}

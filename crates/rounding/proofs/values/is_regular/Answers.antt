@@ -1,4 +1,5 @@
 -- `rounding::values::is_regular` meets its contract. Assumes nothing.
+-- By hand: without it `returns-then-is_finite`, `returns-else-is_finite` are not proved.
 use Rattle.std.proofs.Common.{◌≡◌, ℕ, zero, suc, ◌*◌, ◌<◌, Bool, true, false, not, ◌&&◌, ◌||◌, eqb, ℤ, pos, sym, refl, ap, ◌∙◌, true≢false, zero-lt-suc, mul-pos, zero-mul, arith, ne_eqb}
 use mathlib.Core.Bool.{beq, false≢true}
 use lib.Dec.{eqb-suc-zero}

@@ -1,4 +1,4 @@
--- `detune::factor_is_exact` meets its contract. Assumes nothing.
+-- The factor is exact. Assumes nothing.
 use mathlib.Core.Path.{◌≡◌, refl, ap}
 use mathlib.Core.Bool.{false}
 use Prim.Native.Nat.{suc, ◌+◌, ◌-◌, ◌*◌, ◌/◌, ◌%◌, ◌^◌}
@@ -13,7 +13,7 @@ use Rattle.detune.specs.Table.{entries}
 use Rattle.detune.specs.Detune.{entry, octaves, above, bad_cents, factor_of}
 use Rattle.detune.proofs.Quotient.{under, exact}
 use Rattle.detune.proofs.Rule.{entry_below}
-use Rattle.detune.proofs.factor_is_exact.Goals as goal
+use Rattle.detune.specs.Statement.{Exact}
 
 parts : (z : ℤ) → z ≡ pos 1200 *ℤ octaves z +ℤ pos (above z)
 unfolding octaves above
@@ -47,8 +47,8 @@ cent_down : HasValue (factor_of (negsuc 0)) false (entry 1199) (2 ^ 31)
 unfolding octaves above bad_cents entries
 cent_down = value (negsuc 0) refl
 
-pub returns : goal.returns
-returns c = record {
+pub is_exact : Exact
+is_exact = record {
   parts = parts;
   rest = under;
   value = value;

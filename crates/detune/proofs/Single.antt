@@ -1,4 +1,4 @@
--- `detune::the_table` meets its contract: the rule has one solution for each c, so two tables that obey it agree. Assumes nothing.
+-- The rule has one solution for each c, so two tables that obey it agree. Assumes nothing.
 use mathlib.Core.Path.{◌≡◌, refl, sym, ap, ◌∙◌}
 use mathlib.Core.List.{List}
 use Prim.Native.Nat.{ℕ}
@@ -7,9 +7,8 @@ use Rattle.lists.specs.Powers.{root_single}
 use Rattle.lists.specs.Table.{table, table_get_or, table_same}
 use Rattle.detune.specs.Table.{entries}
 use Rattle.detune.specs.Detune.{Rule}
-use Rattle.detune.specs.Statement.{IsTable}
+use Rattle.detune.specs.Statement.{IsTable, TheTable}
 use Rattle.detune.proofs.Rule.{obeys}
-use Rattle.detune.proofs.the_table.Goals as goal
 
 long : length entries ≡ 1200
 unfolding entries
@@ -28,5 +27,5 @@ only l h =
     ∙ table_same 1200 (λ c. get_or l c 0) (λ c. get_or entries c 0) (λ c b. single c (get_or l c 0) (get_or entries c 0) (h.1 c b) (obeys c b))
     ∙ of entries long
 
-pub returns : goal.returns
-returns c = record { obeys = (long, obeys); single = single; only = only }
+pub the_table : TheTable
+the_table = record { obeys = (long, obeys); single = single; only = only }
