@@ -7,14 +7,14 @@ ghost use Rattle.lists.specs.Table.{table};
 ghost use Rattle.aligned.specs.Aligned.{first_frame, ends_within, aligned_sample, last_wrap, aligned_position};
 
 use rounding::{rem, round_away, truncate, whole};
-use seconds::{block_seconds, widened};
+use seconds::block_seconds;
 
 // The frame at a position, rounded.
 #[tactic(auto, unfolding(crate::specs::Aligned::first_frame))]
 pub fn first_frame(position: f64, rate: f32) -> usize
     ensures { result ≡ first_frame position rate }
 {
-    truncate(round_away(position * widened(rate))) as usize
+    truncate(round_away(position * f64::from(rate))) as usize
 }
 
 // Whether the clip ends within the block.
@@ -25,7 +25,9 @@ pub fn ends_within(position: f64, rate: f32, duration: f64) -> bool
     position + block_seconds(rate) > duration
 }
 
-// The last sample at which a block that turns over starts the clip again.
+// The last sample at which a block that turns over starts the clip again. `next` is the frame that comes next,
+// and no index: it starts over where the sample's goes on.
+#[tactic(auto, using(crate::proofs::Turning::next_more, crate::proofs::Turning::wrap_more), unfolding(crate::specs::Aligned::next_frame, crate::specs::Aligned::last_wrap, crate::specs::Aligned::played))]
 fn last_wrap_of_loop(frames: usize, first: usize) -> Option<usize>
     ensures { result ≡ last_wrap true frames first 128 }
 {
@@ -41,7 +43,9 @@ fn last_wrap_of_loop(frames: usize, first: usize) -> Option<usize>
     wrap
 }
 
-// The last sample at which the clip starts again, if any.
+// The last sample at which the clip starts again, if any. `turns` is a fact of the block, and the definition
+// takes it; `turns.then(..)` would want a `flatten`.
+#[tactic(auto, using(crate::proofs::Turning::wrap_never))]
 pub fn last_wrap(turns: bool, frames: usize, first: usize) -> Option<usize>
     ensures { result ≡ last_wrap turns frames first 128 }
 {
@@ -59,11 +63,14 @@ pub fn aligned_position(position: f64, rate: f32, duration: f64, wrap: Option<us
 {
     match wrap {
         None => position + block_seconds(rate),
-        Some(i) => rem(whole(128 - i.min(128)) / widened(rate), duration),
+        Some(i) => rem(whole(128 - i.min(128)) / f64::from(rate), duration),
     }
 }
 
-// A channel's part of a block that turns over.
+// The part, the channel and the first frame go one by one, here and below: in a struct that holds a lent
+// part each contract would have to say what stays.
+// A channel's part of a block that turns over. `next` is the frame that comes next, and no index.
+#[tactic(auto, using(lists::specs::Table::filled_none, lists::specs::Table::filled_more, lists::specs::Table::filled_end, crate::proofs::Turning::next_more, crate::proofs::Turning::sample_turning, crate::proofs::Turning::silence), unfolding(crate::specs::Aligned::next_frame, crate::specs::Aligned::played))]
 fn write_turning(part: &mut [u32], channel: &[u32], first: usize)
     ensures { part.new
         ≡ table (length part.old) (aligned_sample true (length channel.now) first channel.now) }

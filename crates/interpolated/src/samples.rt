@@ -12,14 +12,17 @@ use fused::fma_narrow;
 use rounding::{NEAR_TOLERANCE, floor, near, truncate, widen};
 use sub_sample::{Infos, Settings};
 
-// A frame as an f64.
-fn frame_at(channel: &[u32], frame: usize) -> f64
-    ensures { result ≡ widen (get_or channel.now frame 0) }
-{
-    widen(frame_or_zero(channel, frame))
+// A channel's frames, and the settings of the block that reads them. A sample's frame and fraction go one
+// by one, as `Infos` has them.
+#[derive(Clone, Copy)]
+struct Reader<'a> {
+    s: Settings,
+    channel: &'a [u32],
 }
 
-// The first frame at or after the position x, in frames, and `last` at most.
+// The first frame at or after the position x, in frames, and `last` at most. `ceil` would give 0 at a
+// fraction below zero and at a NaN, where this is 1. With `saturating_add` and `min` in place of the tests
+// a sub-sample block took 3 to 20 % longer, and 3 to 5 % with the code 16 bytes further on.
 fn frame_after(x: f64, last: usize) -> usize
     ensures { result ≡ min (cond (eq (floor binary64 x) x) (to_unsigned 64 x) (to_unsigned 64 x + 1)) last }
 {
@@ -33,94 +36,109 @@ fn frame_after(x: f64, last: usize) -> usize
     }
 }
 
-// The frame at which the sample after the last is found, looped.
-#[tactic(auto, unfolding(crate::specs::Interpolated::loop_frame))]
-fn loop_frame(s: Settings) -> usize
-    ensures { result ≡ loop_frame s }
-{
-    let last = s.buffer_length.saturating_sub(1);
-    if s.playback_rate >= 0.0 {
-        frame_after(s.loop_start.0 * s.sample_rate, last)
-    } else {
-        (truncate(s.loop_end.0 * s.sample_rate) as usize).min(last)
+impl<'a> Reader<'a> {
+    // A frame as an f64.
+    fn frame_at(&self, frame: usize) -> f64
+        ensures { result ≡ widen (get_or self.now.channel.now frame 0) }
+    {
+        widen(frame_or_zero(self.channel, frame))
     }
-}
 
-// The sample after the last, unlooped: continued from the last two frames.
-#[tactic(auto, unfolding(crate::specs::Interpolated::extrapolated))]
-fn extrapolated(channel: &[u32], frame: usize, k: f64) -> f64
-    ensures { result ≡ extrapolated channel.now frame k }
-{
-    if near(k, 1.0, NEAR_TOLERANCE) || frame == 0 {
-        0.0
-    } else {
-        2.0 * frame_at(channel, frame) - frame_at(channel, frame - 1)
-    }
-}
-
-// The sample after a frame.
-#[tactic(auto, unfolding(crate::specs::Interpolated::following))]
-fn following(s: Settings, channel: &[u32], frame: usize, k: f64) -> f64
-    ensures { result ≡ following s channel.now frame k }
-{
-    if frame < s.buffer_length.saturating_sub(1) {
-        frame_at(channel, frame + 1)
-    } else if s.is_looping {
-        frame_at(channel, loop_frame(s))
-    } else {
-        extrapolated(channel, frame, k)
-    }
-}
-
-// The sample at a frame, and the one after it. Before the last frame both are frames of the channel.
-#[tactic(auto, unfolding(crate::specs::Interpolated::following))]
-fn neighbours(s: Settings, channel: &[u32], frame: usize, k: f64) -> Neighbours
-    ensures { (result.prev_sample ≡ widen (get_or channel.now frame 0))
-        × (result.next_sample ≡ following s channel.now frame k) }
-{
-    let last = s.buffer_length.min(channel.len()).saturating_sub(1);
-    if frame < last {
-        Neighbours {
-            prev_sample: widen(channel[frame]),
-            next_sample: widen(channel[frame + 1]),
-        }
-    } else {
-        Neighbours {
-            prev_sample: frame_at(channel, frame),
-            next_sample: following(s, channel, frame, k),
+    // The frame at which the sample after the last is found, looped.
+    #[tactic(auto, unfolding(crate::specs::Interpolated::loop_frame))]
+    fn loop_frame(&self) -> usize
+        ensures { result ≡ loop_frame self.now.s }
+    {
+        let last = self.s.buffer_length.saturating_sub(1);
+        if self.s.playback_rate >= 0.0 {
+            frame_after(self.s.loop_start.0 * self.s.sample_rate, last)
+        } else {
+            (truncate(self.s.loop_end.0 * self.s.sample_rate) as usize).min(last)
         }
     }
-}
 
-// The bits of a sample that plays a frame.
-#[tactic(auto, unfolding(crate::specs::Interpolated::between))]
-fn sample_between(s: Settings, channel: &[u32], frame: usize, k: f64) -> u32
-    ensures { result ≡ between k (widen (get_or channel.now frame 0)) (following s channel.now frame k) }
-{
-    let at = neighbours(s, channel, frame, k);
-    fma_narrow(1.0 - k, at.prev_sample, k * at.next_sample)
-}
+    // The sample after the last, unlooped: continued from the last two frames.
+    #[tactic(auto, unfolding(crate::specs::Interpolated::extrapolated))]
+    fn extrapolated(&self, frame: usize, k: f64) -> f64
+        ensures { result ≡ extrapolated self.now.channel.now frame k }
+    {
+        if near(k, 1.0, NEAR_TOLERANCE) || frame == 0 {
+            0.0
+        } else {
+            2.0 * self.frame_at(frame) - self.frame_at(frame - 1)
+        }
+    }
 
-// Sample i's bits: those of 0 where it plays no frame.
-#[tactic(auto, unfolding(crate::specs::Interpolated::sample_by, crate::specs::Interpolated::sample_of))]
-fn sample_at(s: Settings, channel: &[u32], infos: &Infos, i: usize) -> u32
-    requires { i < 128 }
-    ensures { result ≡ sample_by s infos.now channel.now i }
-{
-    if infos.present[i] {
-        sample_between(s, channel, infos.frame[i], infos.fraction[i])
-    } else {
-        0
+    // The sample after a frame.
+    #[tactic(auto, unfolding(crate::specs::Interpolated::following))]
+    fn following(&self, frame: usize, k: f64) -> f64
+        ensures { result ≡ following self.now.s self.now.channel.now frame k }
+    {
+        if frame < self.s.buffer_length.saturating_sub(1) {
+            self.frame_at(frame + 1)
+        } else if self.s.is_looping {
+            self.frame_at(self.loop_frame())
+        } else {
+            self.extrapolated(frame, k)
+        }
+    }
+
+    // The sample at a frame, and the one after it. Before the last frame both are frames of the channel.
+    #[tactic(auto, unfolding(crate::specs::Interpolated::following))]
+    fn neighbours(&self, frame: usize, k: f64) -> Neighbours
+        ensures { (result.prev_sample ≡ widen (get_or self.now.channel.now frame 0))
+            × (result.next_sample ≡ following self.now.s self.now.channel.now frame k) }
+    {
+        let last = self
+            .s
+            .buffer_length
+            .min(self.channel.len())
+            .saturating_sub(1);
+        if frame < last {
+            Neighbours {
+                prev_sample: widen(self.channel[frame]),
+                next_sample: widen(self.channel[frame + 1]),
+            }
+        } else {
+            Neighbours {
+                prev_sample: self.frame_at(frame),
+                next_sample: self.following(frame, k),
+            }
+        }
+    }
+
+    // The bits of a sample that plays a frame.
+    #[tactic(auto, unfolding(crate::specs::Interpolated::between))]
+    fn sample_between(&self, frame: usize, k: f64) -> u32
+        ensures { result
+            ≡ between k (widen (get_or self.now.channel.now frame 0)) (following self.now.s self.now.channel.now frame k) }
+    {
+        let at = self.neighbours(frame, k);
+        fma_narrow(1.0 - k, at.prev_sample, k * at.next_sample)
+    }
+
+    // Sample i's bits: those of 0 where it plays no frame.
+    #[tactic(auto, unfolding(crate::specs::Interpolated::sample_by, crate::specs::Interpolated::sample_of))]
+    fn sample_at(&self, infos: &Infos, i: usize) -> u32
+        requires { i < 128 }
+        ensures { result ≡ sample_by self.now.s infos.now self.now.channel.now i }
+    {
+        if infos.present[i] {
+            self.sample_between(infos.frame[i], infos.fraction[i])
+        } else {
+            0
+        }
     }
 }
 
 // A channel's part of the block: its first 128 samples.
-#[tactic(auto, using(lists::specs::Table::filled_none, lists::specs::Table::filled_more))]
+#[tactic(auto, using(lists::specs::Table::filled_none, lists::specs::Table::filled_more, crate::proofs::Front::filled_front))]
 pub fn write_channel(part: &mut [u32], channel: &[u32], s: Settings, infos: &Infos)
     ensures { part.new ≡ filled (min (length part.old) 128) (sample_by s infos.now channel.now) part.old }
 {
     let n = part.len().min(128);
-    for i in 0..n {
-        part[i] = sample_at(s, channel, infos, i);
+    let reader = Reader { s, channel };
+    for (i, sample) in part[..n].iter_mut().enumerate() {
+        *sample = reader.sample_at(infos, i);
     }
 }

@@ -3,7 +3,6 @@ ghost use Rattle.std.specs.Prelude.{◌≡◌};
 ghost use Rattle.sub_sample.specs.SubSample.{head_at};
 ghost use Rattle.sub_sample.specs.Infos.{frame_of, fraction_of, infos_of};
 
-use super::stepping::step;
 use super::{Filled, Infos, PlaybackInfo, Playhead, Settings};
 
 // The frame and the fraction that stand in the arrays: 0 where a sample plays nothing.
@@ -22,6 +21,7 @@ fn frame_and_fraction(info: Option<PlaybackInfo>) -> (usize, f64)
 }
 
 // What each sample of a block plays, from the playhead `h` on.
+#[tactic(auto, using(lists::specs::Table::filled_none, lists::specs::Table::filled_more), unfolding(crate::specs::SubSample::head_at))]
 pub fn fill_infos(s: Settings, h: Playhead) -> Filled
     ensures { (result.infos ≡ infos_of 128 s h) × (result.head ≡ head_at s h 128) }
 {
@@ -30,7 +30,7 @@ pub fn fill_infos(s: Settings, h: Playhead) -> Filled
     let mut present = [false; 128];
     let mut head = h;
     for i in 0..128 {
-        let next = step(s, i, head);
+        let next = s.step(i, head);
         (frame[i], fraction[i]) = frame_and_fraction(next.info);
         present[i] = next.info.is_some();
         head = next.head;

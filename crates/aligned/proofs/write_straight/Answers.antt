@@ -1,4 +1,5 @@
 -- `aligned::write_straight` meets its contract: the first frame may be cut to the clip's length. Assumes nothing.
+-- By hand: with laws named on the function `returns-then-part-channel`, `returns-else-part-channel` are not proved.
 use Rattle.std.proofs.Common.{◌∙◌}
 use Rattle.aligned.proofs.Turning.{straight}
 use Rattle.aligned.proofs.write_straight.Goals as goal

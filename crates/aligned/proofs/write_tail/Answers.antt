@@ -1,4 +1,5 @@
 -- `aligned::write_tail` meets its contract: the frames that are left are copied, and zeros follow. Assumes nothing.
+-- By hand: with laws named on the function `returns` is not proved.
 use Rattle.std.proofs.Common.{refl}
 use Rattle.aligned.proofs.Turning.{tail}
 use Rattle.aligned.proofs.write_tail.Goals as goal

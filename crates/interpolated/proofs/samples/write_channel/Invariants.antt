@@ -5,4 +5,4 @@ use Rattle.interpolated.specs.Interpolated.{sample_by}
 use Rattle.interpolated.proofs.samples.write_channel.Given as goal
 
 abbrev pub invariant-loop-i : goal.invariant-loop-i
-invariant-loop-i l = l.part ≡ filled l.i (sample_by l.s l.infos l.channel) l.initial.part
+invariant-loop-i l = l.sample-items ≡ filled l.i (sample_by l.fn.s l.infos l.channel) l.initial.sample-items

@@ -1,0 +1,2 @@
+-- The law that the proof of `write_channel` cites.
+mod Front
