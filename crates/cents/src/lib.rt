@@ -23,7 +23,9 @@ pub fn factor_at(p: Player, time: f64, cents: i32) -> Result<f64, Refusal>
     detune::factor(cents)
 }
 
-// Renders a block into the lent output, detuned by whole cents.
+// Renders a block into the lent output, detuned by whole cents: document 02's call, beside the block call
+// and with its parameters, one by one as there.
+#[tactic(auto, using(crate::proofs::Silent::at_answer, crate::proofs::Silent::at_output))]
 pub fn process_cents(
     p: Player,
     out: &mut [u32],

@@ -18,3 +18,5 @@ pub mod Whole
 pub mod Longer
 pub mod Samples
 pub mod Unseen
+pub mod Instances
+pub mod Known

@@ -4,11 +4,12 @@ use mathlib.Core.Bool.{Bool, true, false, not, ◌&&◌, cond, false≢true}
 use mathlib.Core.List.{List, [], ◌∷◌}
 use Prim.Native.Nat.{ℕ}
 use lib.Dec.{T}
-use lib.IntN.{ℤ}
+use lib.IntN.{ℤ, pos}
 use lib.ListN.{length}
-use lib.Ieee.{Float, binary32, binary64, fits}
+use lib.Ieee.{Float, binary32, binary64, fits, of_bits}
 use lib.Ieee.Fits.{and_i, and_l, and_r}
 use Rattle.detune.specs.Detune.{bad_cents, factor_of}
+use Rattle.detune.specs.Statement.{Exact}
 use Rattle.player.specs.declared.Player.{Player}
 use Rattle.buffer.specs.declared.refusals.Refusal.{Refusal}
 use Rattle.std.specs.Prelude.{Result, Ok, Err}
@@ -17,7 +18,8 @@ use Rattle.player.specs.Block.{plan, checks, report_of, written}
 use Rattle.buffer.specs.Answers.{answer_of, stored, after_checks}
 use Rattle.cents.proofs.Same.{never, same_answer, same_output, refused}
 use Rattle.claims.specs.Calls.{Call, block, typed, all_typed, is_block, moved, next}
-use Rattle.claims.specs.Longer.{LongerCall, plain, in_cents, preview, preview_in_cents, typed_longer, all_typed_longer, Outcome, outcome, outcome_longer, outcomes, is_left_out, as_call, replaced, kept}
+use Rattle.claims.specs.Longer.{LongerCall, plain, in_cents, preview, preview_in_cents, typed_longer, all_typed_longer, Outcome, outcome, outcome_longer, outcomes, is_left_out, as_call, replaced, kept, InCents}
+use Rattle.claims.proofs.Whole.{long_run_lem}
 
 module _ (p : Player) (out samples : List ℕ) (time rate : Float) (cents : ℤ) where
   abbrev call : LongerCall
@@ -96,3 +98,18 @@ module _ (held : (cents : ℤ) → T (fits binary64 (factor_of cents))) where
   all_typed_lem p (c ∷ cs) t =
       let q = (outcome_longer p c).player in
       typed_step c (replaced q cs) (is_left_out p c) (and_l (typed_longer c) (all_typed_longer cs) t) (all_typed_lem q cs (and_r (typed_longer c) (all_typed_longer cs) t))
+
+-- ---- the claim, by what is claimed of the factors
+in_range : bad_cents (pos 0) ≡ false
+unfolding bad_cents
+in_range = refl
+
+pub blocks_in_cents : Exact → InCents
+unfolding of_bits
+blocks_in_cents exact = record {
+  same = same;
+  unmoved = unmoved;
+  at_zero = λ p out samples time rate.
+      as_block p out samples time rate (pos 0) in_range ∙ ap (λ (factor : Float). outcome p (block out samples time rate factor)) exact.none;
+  long_run = λ rate single valid calls typed. long_run_lem rate single valid _ (all_typed_lem exact.held _ calls typed);
+}

@@ -17,7 +17,7 @@ use Rattle.cents.specs.Cents.{checked_cents, rendered_cents, output_cents}
 use Rattle.preview.specs.Preview.{shown, previewed, previewed_cents}
 use Rattle.claims.specs.Calls.{Call, block}
 use Rattle.claims.proofs.Samples.{alike}
-use Rattle.claims.specs.Longer.{LongerCall, plain, in_cents, preview, preview_in_cents, Given, looked, Outcome, outcome, outcome_longer, is_left_out, as_call, replaced, is_preview, unlooked, outcomes_longer, others, left, seen, shown_by, SameBlock}
+use Rattle.claims.specs.Longer.{LongerCall, plain, in_cents, preview, preview_in_cents, Given, looked, Outcome, outcome, outcome_longer, is_left_out, as_call, replaced, is_preview, unlooked, outcomes_longer, others, left, seen, shown_by, SameBlock, Previews}
 
 -- ---- the player stays
 stays : (p : Player) (c : LongerCall) → is_preview c ≡ true → (outcome_longer p c).player ≡ p
@@ -132,3 +132,17 @@ module _ (p : Player) (out samples : List ℕ) (time rate : Float) (refused : Re
   unfolding rendered_cents output_cents
   unwritten_in_cents_lem cents e =
       unwritten_by (checked_cents 128 p (length out) (length samples) time rate cents) (report_of (plan 128 p time rate (factor_of cents))) refused _ out e
+
+-- ---- the claim
+pub previews : Previews
+previews = record {
+  unseen = unseen;
+  leaves = leaves;
+  foretold = foretold;
+  foretold_in_cents = foretold_in_cents_lem;
+  any_output = λ p between none second out samples same time rate factor. any_output_lem p second out samples same time rate between none factor;
+  any_output_in_cents = λ p between none second out samples same time rate cents. any_output_in_cents_lem p second out samples same time rate between none cents;
+  unwritten = λ p out samples time rate factor refused. unwritten p out samples time rate refused factor;
+  unwritten_in_cents = λ p out samples time rate cents refused. unwritten_in_cents_lem p out samples time rate refused cents;
+  replaced_same = replaced_same_lem;
+}

@@ -13,6 +13,7 @@ pub fn long_run()
 {}
 
 // Lists with blocks in cents beside the other calls give what the lists of demand 3 give.
+#[tactic(auto, using(crate::proofs::Longer::blocks_in_cents))]
 pub fn blocks_in_cents()
     ensures { InCents }
 {
@@ -21,17 +22,20 @@ pub fn blocks_in_cents()
 
 // Lists with previews strewn in give what they give without them, and a preview shows what the next
 // block with its arguments gives.
+#[tactic(auto, using(crate::proofs::Unseen::previews))]
 pub fn previews()
     ensures { Previews }
 {}
 
 // Lists of calls that meet its premises: looped, unlooped, and with a stop.
+#[tactic(auto, using(crate::proofs::Instances::instances))]
 pub fn premises_are_met()
     ensures { Instances }
 {}
 
 // Document 01's starred known frames. Those of rounding, of the fused step and of buffers are their
 // crates' claims.
+#[tactic(auto, using(crate::proofs::Known::known_frames))]
 pub fn known_frames()
     ensures { KnownFrames }
 {

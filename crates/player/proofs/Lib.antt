@@ -1,5 +1,4 @@
 -- The laws that the proofs of `player` share.
 pub mod Written
 mod Sampled
-mod Plans
 mod Limits

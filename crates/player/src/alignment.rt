@@ -7,7 +7,7 @@ ghost use Rattle.player.specs.Block.{clip_seconds, sampling_ratio, start_at, is_
 
 use super::Player;
 use aligned::{ends_within, first_frame};
-use seconds::{block_end, block_seconds, widened};
+use seconds::{block_end, block_seconds};
 
 impl Player {
     // The clip's duration.
@@ -21,7 +21,7 @@ impl Player {
     pub(crate) fn sampling_ratio(self) -> f64
         ensures { result ≡ sampling_ratio self }
     {
-        widened(self.shape.rate) / widened(self.sample_rate)
+        f64::from(self.shape.rate) / f64::from(self.sample_rate)
     }
 
     // A start in the past moves to the block time, unless it has begun.

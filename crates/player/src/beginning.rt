@@ -4,7 +4,7 @@ ghost use Rattle.seconds.specs.Seconds.{none};
 ghost use Rattle.player.specs.Block.{clip_seconds, own_loop, settings, first_head};
 
 use super::{LoopState, Player, RenderState};
-use seconds::{BufferSeconds, ContextSeconds, sample_seconds, widened};
+use seconds::{BufferSeconds, ContextSeconds, sample_seconds};
 use sub_sample::{Playhead, Settings};
 
 impl Player {
@@ -50,7 +50,7 @@ impl Player {
             dt: sample_seconds(self.sample_rate),
             stop_time: self.stop_time,
             duration: self.duration,
-            playback_rate: widened(rate),
+            playback_rate: f64::from(rate),
             computed_playback_rate: computed,
             is_looping: self.loop_state.is_looping,
             loop_start: BufferSeconds(self.actual_loop_start()),
@@ -58,7 +58,7 @@ impl Player {
             buffer_length: self.shape.frames,
             buffer_duration: BufferSeconds(self.clip_seconds()),
             sampling_ratio: self.sampling_ratio(),
-            sample_rate: widened(self.sample_rate),
+            sample_rate: f64::from(self.sample_rate),
         }
     }
 

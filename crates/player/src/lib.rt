@@ -13,7 +13,7 @@ use buffer::Shape;
 use seconds::{BufferSeconds, ContextSeconds};
 
 #[repr(C)]
-#[derive(Clone, Copy)]
+#[derive(Clone, Copy, Default)]
 pub struct LoopState {
     pub is_looping: bool,
     pub start: BufferSeconds,
@@ -22,7 +22,7 @@ pub struct LoopState {
 
 // What a block moves on, beside the start time and the offset.
 #[repr(C)]
-#[derive(Clone, Copy)]
+#[derive(Clone, Copy, Default)]
 pub struct RenderState {
     pub buffer_time: BufferSeconds,
     pub started: bool,
@@ -32,10 +32,10 @@ pub struct RenderState {
     pub ended: bool,
 }
 
-// C sees this record, so a start, a buffer and a block's time that may be missing are each a flag with
-// its value beside it, and no `Option`.
+// C sees this record, so a start, a buffer and a block's time that may be missing are each a flag
+// with its value beside it, and no `Option`.
 #[repr(C)]
-#[derive(Clone, Copy)]
+#[derive(Clone, Copy, Default)]
 pub struct Player {
     pub sample_rate: f32,
     pub start_time: ContextSeconds,

@@ -4,7 +4,7 @@ ghost use Rattle.player.specs.Record.{fresh};
 ghost use Rattle.player.specs.Messages.{made, buffered, handled, bad_time, clamped_start, clamped_end, clamped};
 ghost use Rattle.player.specs.Messages.{on_start, on_stop, on_loop, on_loop_start, on_loop_end};
 
-use super::{ControlMessage, LoopState, Player, RenderState};
+use super::{ControlMessage, Player};
 use buffer::{Refusal, Shape, check_rate, check_shape};
 use rounding::is_finite;
 use seconds::{BufferSeconds, ContextSeconds, NEVER};
@@ -17,7 +17,8 @@ fn is_bad_time(x: f64) -> bool
     !is_finite(x) || x < 0.0
 }
 
-// Loop start within the clip.
+// Loop start within the clip. Not by `f64::clamp`, which asks that 0 is at most the duration: the
+// rate of a caller's record may be any.
 #[tactic(auto, unfolding(crate::specs::Messages::clamped_start))]
 fn clamped_start(at: f64, duration: f64) -> f64
     ensures { result ≡ clamped_start at duration }
@@ -31,7 +32,7 @@ fn clamped_start(at: f64, duration: f64) -> f64
     }
 }
 
-// Loop end within the clip.
+// Loop end within the clip. Not by `f64::clamp` either: an end at or below 0 becomes the duration.
 #[tactic(auto, unfolding(crate::specs::Messages::clamped_end))]
 fn clamped_end(at: f64, duration: f64) -> f64
     ensures { result ≡ clamped_end at duration }
@@ -53,30 +54,8 @@ impl Player {
             sample_rate,
             start_time: ContextSeconds(NEVER),
             stop_time: ContextSeconds(NEVER),
-            offset: BufferSeconds(0.0),
             duration: BufferSeconds(NEVER),
-            loop_state: LoopState {
-                is_looping: false,
-                start: BufferSeconds(0.0),
-                end: BufferSeconds(0.0),
-            },
-            render_state: RenderState {
-                buffer_time: BufferSeconds(0.0),
-                started: false,
-                entered_loop: false,
-                buffer_time_elapsed: BufferSeconds(0.0),
-                is_aligned: false,
-                ended: false,
-            },
-            has_start: false,
-            has_buffer: false,
-            shape: Shape {
-                channels: 0,
-                frames: 0,
-                rate: 0.0,
-            },
-            has_block: false,
-            block_time: ContextSeconds(0.0),
+            ..Self::default()
         }
     }
 
@@ -176,7 +155,8 @@ impl Player {
         }
     }
 
-    // Gives the player its clip: `channels` channels of `frames` frames, at `rate`, in `samples`.
+    // Gives the player its clip: `channels` channels of `frames` frames, at `rate`, in `samples`. One by
+    // one, as document 01 names them.
     #[tactic(auto, unfolding(crate::specs::Messages::buffered))]
     pub fn set_buffer(
         mut self,

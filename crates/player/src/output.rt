@@ -1,48 +1,29 @@
 // The output block: each channel's frames are written into its own part.
-ghost use Rattle.std.specs.Prelude.{◌≡◌, ◌*◌, ◌≤◌, length};
-ghost use Rattle.aligned.specs.Aligned.{aligned_sample};
-ghost use Rattle.interpolated.specs.Interpolated.{sample_by};
+ghost use Rattle.std.specs.Prelude.{◌≡◌, List, ℕ, length};
+ghost use Rattle.lists.specs.Table.{table};
 ghost use Rattle.player.specs.Block.{written};
 
-use sub_sample::{Infos, Settings};
+use buffer::Channels;
 
-// Writes `count` channels of the output, each into its own part. Channel c of the samples is their
-// `frames` frames from frames * c on.
-pub(crate) fn write_aligned(
-    out: &mut [u32],
-    samples: &[u32],
-    frames: usize,
-    count: usize,
-    turns: bool,
-    first: usize,
+// Writes each channel into its own part of the output, by a call with the part and the channel. By
+// index: once a part that `chunks_exact_mut` lent is back, a proof knows the output's length and none
+// of its words. Not reshape's `write_parts`, which fills an output to its end: here the words past the
+// last channel stay.
+#[tactic(auto, using(crate::proofs::Written::turn, buffer::specs::Channels::length_channel), unfolding(crate::specs::Block::written))]
+pub(crate) fn write_channels<F: Fn(&mut [u32], &[u32])>(
+    out: &mut [u32; 4096],
+    channels: Channels,
+    write: F,
 )
-    requires { (length out.old ≡ 4096) × (count ≤ 32) × (frames ≤ 16777216) × (length samples.now ≡ count * frames) }
-    ensures { out.new ≡ written 128 (aligned_sample turns frames first) frames samples.now out.old count }
+    requires { (part : _) (channel : _) → F.pre write part channel }
+    ensures { (sample : List ℕ → ℕ → ℕ) → let it = channels.entry in
+        ((part : _) (channel : _) (after : _) → length part.now ≡ 128 → length channel.now ≡ it.frames
+        → F.post write part channel tt after → after.now ≡ table 128 (sample channel.now))
+        → out.new ≡ written 128 sample it.frames it.samples.now out.old it.count }
 {
-    for c in 0..count {
+    for c in 0..channels.count {
         let a = 128 * c;
-        let b = frames * c;
-        aligned::write_channel(&mut out[a..a + 128], &samples[b..b + frames], turns, first);
-    }
-}
-
-// The same of a sub-sample block, by its infos. One function for both, over a closure that writes a
-// channel's part, was tried: sub-sample blocks were 6 to 13 % slower.
-pub(crate) fn write_interpolated(
-    out: &mut [u32],
-    samples: &[u32],
-    frames: usize,
-    count: usize,
-    s: Settings,
-    infos: &Infos,
-)
-    requires { (length out.old ≡ 4096) × (count ≤ 32) × (frames ≤ 16777216) × (length samples.now ≡ count * frames) }
-    ensures { out.new
-        ≡ written 128 (sample_by s infos.now) frames samples.now out.old count }
-{
-    for c in 0..count {
-        let a = 128 * c;
-        let b = frames * c;
-        interpolated::write_channel(&mut out[a..a + 128], &samples[b..b + frames], s, infos);
+        let channel = channels.channel(c).unwrap();
+        write(&mut out[a..a + 128], channel);
     }
 }

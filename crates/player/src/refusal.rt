@@ -5,7 +5,6 @@ ghost use Rattle.player.specs.Block.{bad_block_time, bad_rate, bad_samples, chec
 use super::Player;
 use buffer::Refusal;
 use rounding::is_finite;
-use seconds::widened;
 
 // 2^30 seconds.
 const LATEST: f64 = 1073741824.0;
@@ -20,7 +19,7 @@ const FASTEST: f64 = 18446744073709551616.0;
 fn is_bad_rate(rate: f32, factor: f64) -> bool
     ensures { result ≡ bad_rate rate factor }
 {
-    !is_finite(widened(rate)) || !(SLOWEST <= factor && factor <= FASTEST)
+    !is_finite(f64::from(rate)) || !(SLOWEST <= factor && factor <= FASTEST)
 }
 
 impl Player {
@@ -47,7 +46,8 @@ impl Player {
         }
     }
 
-    // The checks of a block. Cents are checked by who takes them.
+    // The checks of a block. Cents are checked by who takes them: `bad_cents` is what was found, no switch,
+    // since its row stands between those of the time and of the speed.
     pub fn check_block(
         self,
         out_len: usize,

@@ -44,6 +44,7 @@ fn begun(samples: &[u32], channels: usize, frames: usize, looped: bool) -> Resul
 
 // Plays `blocks` blocks of the clip from its start into `out`, and tells whether the player then
 // goes on.
+#[tactic(auto, using(crate::proofs::Turns::after_none, crate::proofs::Turns::next_player, crate::proofs::Turns::next_output, crate::proofs::Turns::refused_answer, crate::proofs::Turns::refused_output))]
 #[unsafe(no_mangle)]
 pub extern "C" fn player_blocks(
     out: &mut [u32],

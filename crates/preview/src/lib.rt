@@ -1,5 +1,5 @@
-// The preview of the coming block: what the block call would give on a copy of the player. It answers
-// no player, so that nothing of it can stand in for the one that was looked at.
+// The preview of the coming block: what the block call would give on a copy of the player. It
+// answers no player, so that nothing of it can stand in for the one that was looked at.
 #![tactic(auto)]
 
 ghost use Rattle.std.specs.Prelude.{◌≡◌, length};
@@ -12,7 +12,8 @@ use cents::process_cents;
 use player::{BlockReport, Player};
 use seconds::BufferSeconds;
 
-// Of the coming block, what it would answer, but for the player that it would leave.
+// Of the coming block, what it would answer, but for the player that it would leave. The block's own
+// answer is flat (document 01), so its four fields stand here once more.
 #[derive(Clone, Copy)]
 pub struct Coming {
     pub keep_alive: bool,
@@ -38,7 +39,7 @@ impl From<BlockReport> for Coming {
     }
 }
 
-// Renders the coming block into a second output.
+// Renders the coming block into a second output. The parameters are the block call's, one by one.
 pub fn preview(
     p: Player,
     out: &mut [u32],

@@ -1,15 +1,12 @@
-use Rattle.std.proofs.Common.{sym, refl, ◌∙◌, arith}
-use Rattle.player_c.proofs.Turns.{after_none, after_more, after_all_lem, refused}
+-- `player_c::player_blocks` meets its contract: after all blocks.
+-- By hand: `search` gave up at one of its limits.
+use Rattle.player_c.proofs.Turns.{all_answer, all_output}
 use Rattle.player_c.proofs.player_blocks.Goals as goal
 
-pub returns-in_default : goal.returns-in_default
-returns-in_default c = refused _ _ _ _ _ _ (sym c.begun.ensures ∙ c.in_default.is)
-
-pub loop-n-init : goal.loop-n-init
-loop-n-init c = after_none _ _ _ _ _ refl
-
-pub loop-n-preserved : goal.loop-n-preserved
-loop-n-preserved c = after_more _ _ _ _ _ _ _ _ _ _ refl c.loop-n.invariant c.played-p.ensures.0 c.played-p.ensures.1
-
 pub returns : goal.returns
-returns c = after_all_lem _ _ _ _ _ _ _ _ _ (sym c.begun.ensures ∙ c.in-Ok.is) (omega arith) c.loop-n.invariant
+returns c =
+    let all = c.loop-n-test.false in
+    let at = c.loop-n.invariant in (
+      all_answer _ _ _ _ _ _ _ _ c.begun.ensures c.in-Ok.is c.loop-n.auto.n-end all _ at.is,
+      all_output _ _ _ _ _ _ _ _ c.begun.ensures c.in-Ok.is c.loop-n.auto.n-end all _ at.holds,
+    )

@@ -1,4 +1,4 @@
--- `claims::premises_are_met` meets its contract: antt computes each list. Assumes nothing.
+-- The lists that meet the premises: antt computes each. Assumes nothing.
 use mathlib.Core.Path.{◌≡◌, refl}
 use mathlib.Core.List.{List, [], ◌∷◌}
 use Prim.Native.Nat.{ℕ, ◌≤◌}
@@ -20,7 +20,6 @@ use Rattle.detune.specs.Detune.{octaves, above, bad_cents, factor_of}
 use Rattle.cents.specs.Cents.{checked_cents, rendered_cents}
 use Rattle.claims.specs.Longer.{replaced, unlooked}
 use Rattle.claims.specs.Instances.{rate, frames, looped_calls, plain_calls, stopped_calls, longer_calls, previewed_calls, Met, Instances}
-use Rattle.claims.proofs.premises_are_met.Goals as goal
 
 abbrev ownClip : Clip
 ownClip = record { channels = 1; frames = 3; rate = rate; samples = frames }
@@ -54,7 +53,7 @@ met calls blocks typed clips starts time switches stops points plain played = re
   played = played;
 }
 
-instances : Instances
+pub instances : Instances
 unfolding replaced unlooked checked_cents rendered_cents bad_cents factor_of octaves above entries accepted accepts next opening playing handled buffered on_start on_stop
     on_loop bad_time clamped clamped_start clamped_end fresh valid_rate valid_shape duration rendered checked bad_block_time bad_rate bad_samples plan is_aligned start_at
     aligned_plan sub_sample_plan settings first_head head_at has_ended turns_over first_frame ends_within played next_frame last_wrap aligned_position dt block_seconds
@@ -75,6 +74,3 @@ instances = (
   },
   record { between = refl; lengths = refl; short = refl; far = refl },
 )
-
-pub returns : goal.returns
-returns c = instances

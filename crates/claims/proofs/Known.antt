@@ -1,4 +1,4 @@
--- `claims::known_frames` meets its contract: three parts are what the crates below claim, the others are computed. Assumes nothing.
+-- Document 01's known frames: four parts are what the crates below claim, the others are computed. Assumes nothing.
 use mathlib.Core.Path.{refl}
 use lib.Ieee.{of_bits, of_int, round, sum, add, mul, div, rem, lt, le, eq, ne, neg, sub, to_unsigned}
 use Rattle.lists.specs.Table.{table}
@@ -10,8 +10,11 @@ use Rattle.player.specs.Messages.{clamped_start, clamped_end, clamped, bad_time,
 use Rattle.aligned.specs.Aligned.{first_frame, ends_within, played, next_frame, aligned_sample, last_wrap, aligned_position}
 use Rattle.player.specs.Block.{start_at, is_aligned, has_ended, turns_over, aligned_plan, plan}
 use Rattle.claims.specs.Calls.{next}
-use Rattle.claims.specs.Known.{KnownLoopPoints, KnownPlayback}
-use Rattle.claims.proofs.known_frames.Goals as goal
+use Rattle.rounding.specs.Known.{KnownRounding}
+use Rattle.fused.specs.Known.{KnownFused}
+use Rattle.buffer.specs.Known.{KnownBuffer}
+use Rattle.reshape.specs.Known.{KnownReshape}
+use Rattle.claims.specs.Known.{KnownLoopPoints, KnownPlayback, KnownFrames}
 
 loop-points : KnownLoopPoints
 unfolding KnownLoopPoints clamped_start clamped_end of_bits lt le eq
@@ -21,13 +24,13 @@ playback : KnownPlayback
 unfolding KnownPlayback next handled buffered on_start on_loop bad_time clamped clamped_start clamped_end fresh valid_rate valid_shape duration plan is_aligned start_at aligned_plan has_ended turns_over first_frame ends_within aligned_sample played next_frame last_wrap aligned_position dt block_seconds block_end table round_away of_bits of_int round sum add mul div rem lt le eq ne neg sub to_unsigned
 playback = (refl, refl, refl)
 
-pub returns : goal.returns
-returns c =
+pub known_frames : KnownRounding → KnownFused → KnownBuffer → KnownReshape → KnownFrames
+known_frames rounding fused buffers reshaped =
     record {
-      rounding = c.known_rounding.ensures;
-      fused = c.known_fused.ensures;
-      buffers = c.known_buffer.ensures;
-      reshaped = c.known_reshape.ensures;
+      rounding = rounding;
+      fused = fused;
+      buffers = buffers;
+      reshaped = reshaped;
       loop_points = loop-points;
       playback = playback;
     }
