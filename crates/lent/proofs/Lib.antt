@@ -1,2 +1,3 @@
 -- What the proofs of `lent` share.
 mod Mute
+mod NoCents

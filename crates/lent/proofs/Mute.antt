@@ -22,9 +22,9 @@ use Rattle.player.specs.declared.BlockReport.{BlockReport}
 use Rattle.std.specs.Prelude.{Result, Ok, Err}
 use Rattle.lent.specs.Lent.{after_call}
 use Rattle.std.proofs.lemmas.Bool.{cond_both}
-use Rattle.lent.specs.Nobody.{nobody, Mute, StaysMute, Refuses, IsRefused}
+use Rattle.lent.specs.Nobody.{nobody, Mute, StaysMute, Refuses, IsRefused, NobodyPlays}
 
-pub mute_nobody : Mute nobody
+mute_nobody : Mute nobody
 mute_nobody = (refl, refl)
 
 -- ---- messages and the buffer call
@@ -66,7 +66,7 @@ buffer_leaves p channels frames rate length h =
     (either_leaves p (not (valid_rate rate)) refused.Rate _ h
     (second p p.has_buffer refused.Second _ h.0 h))
 
-pub stays_mute : StaysMute
+stays_mute : StaysMute
 stays_mute = ((λ p m h. (message_leaves p m h).mute), (λ p channels frames rate length h. (buffer_leaves p channels frames rate length h).mute))
 
 -- ---- blocks
@@ -111,9 +111,12 @@ refuses : (p : Player) (passed : Result Unit Refusal) (r : BlockReport) → (pas
 refuses p (Ok tt) r never = absurd (never refl)
 refuses p (Err first) r never = (some first, refl)
 
-pub is_refused : IsRefused
+is_refused : IsRefused
 unfolding rendered checked rendered_cents checked_cents
 is_refused = (
   (λ p m n time rate factor h. refuses p _ _ (never p m n time false rate factor h)),
   (λ p m n time rate cents h. refuses p _ _ (never p m n time (bad_cents cents) rate (factor_of cents) h)),
 )
+
+pub nobody_plays : NobodyPlays
+nobody_plays = (mute_nobody, stays_mute, is_refused)

@@ -44,3 +44,20 @@ in_cents a = record {
   keep_alive = a.keep_alive;
   ended = a.ended;
 }
+
+-- p with the start time, the offset, what is rendered and the last accepted block's time of q
+abbrev pub moved_to : Player → Player → Player
+moved_to p q = record {
+  sample_rate = p.sample_rate;
+  start_time = q.start_time;
+  stop_time = p.stop_time;
+  offset = q.offset;
+  duration = p.duration;
+  loop_state = p.loop_state;
+  render_state = q.render_state;
+  has_start = p.has_start;
+  has_buffer = p.has_buffer;
+  shape = p.shape;
+  has_block = q.has_block;
+  block_time = q.block_time;
+}

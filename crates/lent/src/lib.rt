@@ -1,24 +1,25 @@
 // What the library for C is made of, below its exported functions: the player's calls by value, a
-// message on the lent player, the factor of cents, and the player that a refused rate is answered
-// with.
+// block and a message on the lent player, the factor of cents, and the player that a refused rate is
+// answered with.
 #![tactic(auto)]
 
-ghost use Rattle.std.specs.Prelude.{◌≡◌, length};
+ghost use Rattle.std.specs.Prelude.{◌≡◌, ℕ, List, length};
 ghost use Rattle.buffer.specs.Answers.{passed};
 ghost use Rattle.player.specs.Messages.{handled, buffered};
 ghost use Rattle.player.specs.Block.{rendered, output};
 ghost use Rattle.cents.specs.Cents.{rendered_cents, output_cents, factored_at};
-ghost use Rattle.lent.specs.Lent.{after_call, after_block, in_cents};
+ghost use Rattle.lent.specs.Lent.{after_call, after_block, in_cents, moved_to};
+ghost use Rattle.lent.specs.declared.Blocked.{Blocked};
 ghost use Rattle.lent.specs.Nobody.{no_shape, nobody, NobodyPlays};
 
 use buffer::{Refusal, Shape};
 use cents::{factor_at, process_cents};
-use player::{BlockReport, ControlMessage, LoopState, Player, RenderState};
-use seconds::{BufferSeconds, ContextSeconds};
+use player::{BlockReport, ControlMessage, Player, RenderState};
+use seconds::BufferSeconds;
 
-// The player that a message or a buffer call leaves, and the number of its refusal, 0 for none. C sees
-// this record and those below, and an exported function can't return an enum: so a number stands beside
-// the values.
+// The player that a message or a buffer call leaves, and the number of its refusal, 0 for none. C
+// sees this record and those below, and an exported function can't return an enum: so a number
+// stands beside the values.
 #[repr(C)]
 #[derive(Clone, Copy)]
 pub struct Told {
@@ -26,9 +27,10 @@ pub struct Told {
     pub refusal: u32,
 }
 
-// What a block answers: keep-alive, ended, the answered channels and the position; or the number of its refusal beside zeros.
+// What a block answers: keep-alive, ended, the answered channels and the position; or the number of
+// its refusal beside zeros.
 #[repr(C)]
-#[derive(Clone, Copy)]
+#[derive(Clone, Copy, Default)]
 pub struct BlockAnswer {
     pub position: BufferSeconds,
     pub channels: usize,
@@ -52,8 +54,8 @@ pub struct Factored {
     pub refusal: u32,
 }
 
-// A refused call leaves the player `p`, which a `From` of the answer alone could not give back; so too
-// `after_block`.
+// A refused call leaves the player `p`, which a `From` of the answer alone could not give back; so
+// too `after_block`.
 pub fn after_call(p: Player, handled: Result<Player, Refusal>) -> Told
     ensures { result ≡ after_call p handled }
 {
@@ -101,16 +103,15 @@ fn after_block(p: Player, rendered: Result<BlockReport, Refusal>) -> Blocked
         Err(refusal) => Blocked {
             player: p,
             answer: BlockAnswer {
-                position: BufferSeconds(0.0),
-                channels: 0,
                 refusal: refusal.number(),
-                keep_alive: false,
-                ended: false,
+                ..BlockAnswer::default()
             },
         },
     }
 }
 
+// Two calls, one with a factor and one in cents, here and below: document 02 names both, and one over
+// either speed would ask again which it is.
 pub fn block_by_value(
     p: Player,
     out: &mut [u32],
@@ -139,6 +140,47 @@ pub fn cents_by_value(
     after_block(p, process_cents(p, out, samples, time, rate, cents))
 }
 
+// A block on a lent player, by a call that takes the player by value. What a block may change is
+// written back, and the rest is left: so where the call answers by a definition that leaves the rest
+// too, this answers, leaves and writes what the definition says (`law`).
+pub fn block_on_lent<F: FnOnce(Player, &mut [u32]) -> Blocked>(
+    p: &mut Player,
+    out: &mut [u32],
+    block: F,
+) -> BlockAnswer
+    requires { (handed : _) → handed.now ≡ out.old → F.pre block p.old handed }
+    ensures called { (handed : _) × (r : _) × (after : _) × (handed.now ≡ out.old) × F.post block p.old handed r after
+        × (result ≡ r.answer) × (p.new ≡ moved_to p.old r.player) × (out.new ≡ after.now) }
+    ensures law { (answer : Blocked) (output : List ℕ)
+        → ((handed : _) (r : _) (after : _) → handed.now ≡ out.old → F.post block p.old handed r after → (r ≡ answer) × (after.now ≡ output))
+        → moved_to p.old answer.player ≡ answer.player
+        → (result ≡ answer.answer) × (p.new ≡ answer.player) × (out.new ≡ output) }
+{
+    let Blocked { player, answer } = block(*p, out);
+    p.start_time = player.start_time;
+    p.offset = player.offset;
+    p.render_state = player.render_state;
+    p.has_block = player.has_block;
+    p.block_time = player.block_time;
+    answer
+}
+
+// A block on a copy of a player that is looked at, by such a call. The player stays.
+pub fn block_on_copy<F: FnOnce(Player, &mut [u32]) -> Blocked>(
+    p: &Player,
+    out: &mut [u32],
+    block: F,
+) -> BlockAnswer
+    requires { (handed : _) → handed.now ≡ out.old → F.pre block p.now handed }
+    ensures called { (handed : _) × (r : _) × (after : _) × (handed.now ≡ out.old) × F.post block p.now handed r after
+        × (result ≡ r.answer) × (p.exit.now ≡ p.entry.now) × (out.new ≡ after.now) }
+    ensures law { (answer : Blocked) (output : List ℕ)
+        → ((handed : _) (r : _) (after : _) → handed.now ≡ out.old → F.post block p.now handed r after → (r ≡ answer) × (after.now ≡ output))
+        → (result ≡ answer.answer) × (p.exit.now ≡ p.entry.now) × (out.new ≡ output) }
+{
+    block(*p, out).answer
+}
+
 impl From<Result<f64, Refusal>> for Factored {
     ghost use Rattle.std.specs.Prelude.{◌≡◌};
     ghost use Rattle.lent.specs.Lent.{factor_for};
@@ -156,8 +198,9 @@ impl From<Result<f64, Refusal>> for Factored {
     }
 }
 
-// The factor that a block in cents asks for. No cents, at which a block may be quick, are told here,
-// where they cost no call.
+// The factor that a block in cents asks for. No cents, at which a block may be quick, are told
+// here, where they cost no call.
+#[tactic(auto, using(crate::proofs::NoCents::unaltered))]
 pub fn factor_of(p: Player, time: f64, cents: i32) -> Result<f64, Refusal>
     ensures { result ≡ factored_at 128 p time cents }
 {
@@ -167,8 +210,8 @@ pub fn factor_of(p: Player, time: f64, cents: i32) -> Result<f64, Refusal>
     factor_at(p, time, cents)
 }
 
-// The answer of a block that was played with the factor of refused cents: its number, since C's record
-// holds that.
+// The answer of a block that was played with the factor of refused cents: its number, since C's
+// record holds that.
 pub fn in_cents(answer: BlockAnswer) -> BlockAnswer
     ensures { result ≡ in_cents answer }
 {
@@ -193,11 +236,7 @@ pub fn handle_control_message(p: &mut Player, m: ControlMessage) -> Result<(), R
 pub fn no_shape() -> Shape
     ensures { result ≡ no_shape }
 {
-    Shape {
-        channels: 0,
-        frames: 0,
-        rate: 0.0,
-    }
+    Shape::default()
 }
 
 // The player that a refused rate is answered with.
@@ -205,33 +244,18 @@ pub fn nobody() -> Player
     ensures { result ≡ nobody }
 {
     Player {
-        sample_rate: 0.0,
-        start_time: ContextSeconds(0.0),
-        stop_time: ContextSeconds(0.0),
-        offset: BufferSeconds(0.0),
-        duration: BufferSeconds(0.0),
-        loop_state: LoopState {
-            is_looping: false,
-            start: BufferSeconds(0.0),
-            end: BufferSeconds(0.0),
-        },
         render_state: RenderState {
-            buffer_time: BufferSeconds(0.0),
-            started: false,
-            entered_loop: false,
-            buffer_time_elapsed: BufferSeconds(0.0),
-            is_aligned: false,
             ended: true,
+            ..RenderState::default()
         },
         has_start: true,
         has_buffer: true,
-        shape: no_shape(),
-        has_block: false,
-        block_time: ContextSeconds(0.0),
+        ..Player::default()
     }
 }
 
 // The player of a refused rate never plays.
+#[tactic(auto, using(crate::proofs::Mute::nobody_plays))]
 pub fn nobody_plays()
     ensures { NobodyPlays }
 {}

@@ -10,24 +10,7 @@ use Rattle.buffer.specs.Answers.{after_checks}
 use Rattle.player.specs.Block.{Plan, silent, idle, computed_rate, is_aligned, aligned_plan, sub_sample_plan, plan, checked, report_of, rendered}
 use Rattle.player.specs.declared.Player.{Player}
 use Rattle.seconds.specs.Seconds.{never, block_end}
-use Rattle.lent.specs.Lent.{after_block}
-
--- p with the start time, the offset, what is rendered and the last accepted block's time of q
-abbrev pub moved_to : Player → Player → Player
-moved_to p q = record {
-  sample_rate = p.sample_rate;
-  start_time = q.start_time;
-  stop_time = p.stop_time;
-  offset = q.offset;
-  duration = p.duration;
-  loop_state = p.loop_state;
-  render_state = q.render_state;
-  has_start = p.has_start;
-  has_buffer = p.has_buffer;
-  shape = p.shape;
-  has_block = q.has_block;
-  block_time = q.block_time;
-}
+use Rattle.lent.specs.Lent.{after_block, moved_to}
 
 -- the player of a plan
 record Keeps (p : Player) (q : Plan) : Type 0 where

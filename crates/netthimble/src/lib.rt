@@ -13,8 +13,8 @@ pub use playing::{
     netthimble_player_process, netthimble_player_process_cents, netthimble_player_set_buffer,
 };
 
-// The shape of a clip or of a buffer that is made. C sees this record and those below, and an exported
-// function can't return an enum: so a refusal's number stands beside the values.
+// The shape of a clip or of a buffer that is made. C sees this record and those below, and an
+// exported function can't return an enum: so a refusal's number stands beside the values.
 #[repr(C)]
 #[derive(Clone, Copy)]
 pub struct Shaped {

@@ -1,5 +1,5 @@
-// A fresh player, the messages, and the factor of cents, by value; the buffer call and the blocks, on
-// the lent player, which is altered there, as the Rust's `&mut self` does.
+// A fresh player, the messages, and the factor of cents, by value; the buffer call and the blocks,
+// on the lent player, which is altered there, as the Rust's `&mut self` does.
 ghost use Rattle.std.specs.Prelude.{◌≡◌, length};
 ghost use Rattle.player.specs.Messages.{made, handled, buffered};
 ghost use Rattle.player.specs.Block.{rendered, output};
@@ -9,8 +9,8 @@ ghost use Rattle.lent.specs.Lent.{after_call, after_block, factor_for};
 ghost use Rattle.lent.specs.Nobody.{nobody};
 
 use lent::{
-    BlockAnswer, Factored, Told, after_call, block_by_value, buffer_by_value, factor_of, in_cents,
-    message_by_value, nobody,
+    BlockAnswer, Factored, Told, after_call, block_by_value, block_on_lent, buffer_by_value,
+    factor_of, in_cents, message_by_value, nobody,
 };
 use player::{ControlMessage, Player};
 
@@ -22,7 +22,8 @@ pub extern "C" fn netthimble_new(sample_rate: f32) -> Told
     after_call(nobody(), Player::new(sample_rate))
 }
 
-// Start at `when` seconds of the context, `offset` seconds into the clip, for `duration` seconds of it.
+// Start at `when` seconds of the context, `offset` seconds into the clip, for `duration` seconds of
+// it.
 #[unsafe(no_mangle)]
 pub extern "C" fn netthimble_start(p: Player, when: f64, offset: f64, duration: f64) -> Told
     ensures { result ≡ after_call p (handled p (ControlMessage.Start when offset duration)) }
@@ -63,7 +64,7 @@ pub extern "C" fn netthimble_loop_end(p: Player, at: f64) -> Told
 }
 
 // Gives the player its clip: `channels` channels of `frames` frames, at `rate`, in `samples`.
-// Returns the number of its refusal, 0 for none.
+// Returns the number of its refusal, 0 for none: an exported function can't return an enum.
 #[unsafe(no_mangle)]
 pub extern "C" fn netthimble_player_set_buffer(
     p: &mut Player,
@@ -82,6 +83,7 @@ pub extern "C" fn netthimble_player_set_buffer(
 
 // Renders a block into the lent output. Of the player, what a block may change is written back, and
 // the rest is left.
+#[tactic(auto, using(crate::proofs::Moved::leaves))]
 #[unsafe(no_mangle)]
 pub extern "C" fn netthimble_player_process(
     p: &mut Player,
@@ -96,13 +98,9 @@ pub extern "C" fn netthimble_player_process(
         ≡ (after_block p.old (rendered 128 p.old (length out.old) (length samples.now) time rate factor)).player)
         × (out.new ≡ output 128 p.old out.old samples.now time rate factor) }
 {
-    let r = block_by_value(*p, out, samples, time, rate, factor);
-    p.start_time = r.player.start_time;
-    p.offset = r.player.offset;
-    p.render_state = r.player.render_state;
-    p.has_block = r.player.has_block;
-    p.block_time = r.player.block_time;
-    r.answer
+    block_on_lent(p, out, |p, out| {
+        block_by_value(p, out, samples, time, rate, factor)
+    })
 }
 
 // The factor of a detune in whole cents.

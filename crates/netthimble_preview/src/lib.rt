@@ -1,12 +1,13 @@
-// The library for C (include/netthimble.h): the preview of the coming block. It is compiled by itself, so
-// that the player's code stands within this call as it does within `netthimble_player_process`.
+// The library for C (include/netthimble.h): the preview of the coming block. It is compiled by
+// itself, so that the player's code stands within this call as it does within
+// `netthimble_player_process`.
 #![tactic(auto)]
 
 ghost use Rattle.std.specs.Prelude.{◌≡◌, length};
 ghost use Rattle.player.specs.Block.{rendered, output};
 ghost use Rattle.lent.specs.Lent.{after_block};
 
-use lent::{BlockAnswer, block_by_value};
+use lent::{BlockAnswer, block_by_value, block_on_copy};
 use player::Player;
 
 // Renders the coming block into a second output: what `netthimble_player_process` would answer and
@@ -24,5 +25,7 @@ pub extern "C" fn netthimble_player_preview(
         × (p.exit.now ≡ p.entry.now)
         × (out.new ≡ output 128 p.now out.old samples.now time rate factor) }
 {
-    block_by_value(*p, out, samples, time, rate, factor).answer
+    block_on_copy(p, out, |p, out| {
+        block_by_value(p, out, samples, time, rate, factor)
+    })
 }

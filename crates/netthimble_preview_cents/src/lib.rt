@@ -1,5 +1,5 @@
-// The library for C (include/netthimble.h): the preview of the coming block in cents. It is compiled by
-// itself, so that the player's code stands within this call as it does within
+// The library for C (include/netthimble.h): the preview of the coming block in cents. It is
+// compiled by itself, so that the player's code stands within this call as it does within
 // `netthimble_player_process_cents`.
 #![tactic(auto)]
 
@@ -7,7 +7,7 @@ ghost use Rattle.std.specs.Prelude.{◌≡◌, length};
 ghost use Rattle.cents.specs.Cents.{rendered_cents, output_cents};
 ghost use Rattle.lent.specs.Lent.{after_block};
 
-use lent::{BlockAnswer, cents_by_value};
+use lent::{BlockAnswer, block_on_copy, cents_by_value};
 use player::Player;
 
 // Renders the coming block into a second output, detuned by whole cents: what
@@ -26,5 +26,7 @@ pub extern "C" fn netthimble_player_preview_cents(
         × (p.exit.now ≡ p.entry.now)
         × (out.new ≡ output_cents 128 p.now out.old samples.now time rate cents) }
 {
-    cents_by_value(*p, out, samples, time, rate, cents).answer
+    block_on_copy(p, out, |p, out| {
+        cents_by_value(p, out, samples, time, rate, cents)
+    })
 }

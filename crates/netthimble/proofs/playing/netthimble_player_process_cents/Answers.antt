@@ -1,4 +1,5 @@
 -- `netthimble::playing::netthimble_player_process_cents` meets its contract: the block that is played with the factor asked for is the block in cents.
+-- By hand: `search` gave up at one of its limits.
 use mathlib.Core.Path.{ap, ◌∙◌, sym}
 use lib.ListN.{length}
 use mir.Syntax.{w32}
