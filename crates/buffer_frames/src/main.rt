@@ -83,7 +83,7 @@ fn print_parted(
 fn run_limits(rt: &impl Print) -> io::Result<()> {
     let most = buffer::is_valid_shape(1, 16_777_216, 16_777_216);
     let over = buffer::is_valid_shape(1, 16_777_217, 16_777_217);
-    println!(rt; "{}{}", most as u64, over as u64)?;
+    println!(rt; "{}{}", u8::from(most), u8::from(over))?;
     let half = buffer::duration(Shape {
         channels: 1,
         frames: 24000,

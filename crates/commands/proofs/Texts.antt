@@ -8,7 +8,7 @@ use Rattle.std.proofs.Math.Seq.{take-append_seam, take_all, drop-append-add, get
 use Rattle.std.proofs.lemmas.Bool.{eqb-true}
 use Rattle.commands.specs.Digits.{SPACE, digit, hex, hex_digit, hex_from, hex_number}
 use Rattle.commands.specs.Commands.{at, space, time_of, time_command, start_of, start_command, command}
-use Rattle.commands.specs.Statement.{time_line, line_of, IsBits, IsCommand, TextsAreRead, LinesAreTexts}
+use Rattle.commands.specs.Statement.{time_line, line_of, IsBits, IsCommand, TextsAreRead, LinesAreTexts, CommandLines}
 use Rattle.commands.specs.declared.Command.{Command}
 use Rattle.commands.specs.declared.Command.TheVariants.{Start, Stop, LoopStart, LoopEnd, Loop, Block}
 use Rattle.commands.proofs.Hex.{digit_small}
@@ -104,7 +104,7 @@ start_read x y z hx hy hz =
     (ap (λ (r : List ℕ). hex_number (take 16 r)) (behind x rest 1) ∙ ap hex_number (front y end) ∙ number_read y hy)
     (ap (λ (r : List ℕ). hex_number (take 16 r)) (behind x rest 18 ∙ behind y end 1) ∙ ap hex_number last ∙ number_read z hz)
 
-pub texts_are_read : TextsAreRead
+texts_are_read : TextsAreRead
 unfolding command line_of IsCommand time_of
 texts_are_read (Start x y z) h = start_read x y z h.0 h.1 h.2
 texts_are_read (Stop x) h = time_read 84 x h
@@ -191,3 +191,6 @@ lines_are_texts l =
     go false true d p q r = inr (Loop false, refl, tt, q refl)
     go false false true p q r = inr (Loop true, refl, tt, r refl)
     go false false false p q r = spaced l (space l 1) (eqb (at l 0) 83) (eqb-true (at l 1) SPACE) (eqb-true (at l 0) 83)
+
+pub command_lines : CommandLines
+command_lines = (texts_are_read, lines_are_texts)

@@ -35,6 +35,10 @@ unfoldable pub hex_from : ℕ → List ℕ → Option ℕ
 hex_from v [] = Some v
 hex_from v (b ∷ bs) = option_and_then (λ d. hex_from (16 * v + d) bs) (hex_digit b)
 
+-- the number that hex digits are, of which 16 at most fit a u64
+unfoldable pub read_hex : List ℕ → Option ℕ
+read_hex l = cond (leb (length l) 16) (hex_from 0 l) None
+
 -- the number that 16 hex digits are
 unfoldable pub hex_number : List ℕ → Option ℕ
 hex_number l = cond (eqb (length l) 16) (hex_from 0 l) None

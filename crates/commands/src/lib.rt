@@ -2,7 +2,7 @@
 #![tactic(auto)]
 
 ghost use Rattle.std.specs.Prelude.{◌≡◌};
-ghost use Rattle.commands.specs.Digits.{hex_digit, hex_number};
+ghost use Rattle.commands.specs.Digits.{hex_digit, read_hex, hex_number};
 ghost use Rattle.commands.specs.Commands.{time_command, start_command, command};
 ghost use Rattle.commands.specs.Statement.{CommandLines};
 
@@ -29,17 +29,32 @@ pub fn hex_digit(b: u8) -> Option<u8>
     }
 }
 
-// The number that 16 hex digits are.
-#[tactic(auto, using(crate::proofs::Hex::hex_stops, crate::proofs::Hex::hex_done), unfolding(crate::specs::Digits::hex_number))]
-fn hex_number(text: &[u8]) -> Option<u64>
-    ensures { result ≡ hex_number text.now }
+// The number that hex digits are; none where they are more than 16. Std's `from_str_radix` takes small
+// letters and a sign, and asks for a str.
+#[tactic(auto, using(crate::proofs::Hex::hex_stops, crate::proofs::Hex::hex_done), unfolding(crate::specs::Digits::read_hex))]
+pub fn read_hex(digits: &[u8]) -> Option<u64>
+    ensures { result ≡ read_hex digits.now }
 {
-    let digits: &[u8; 16] = text.try_into().ok()?;
+    if digits.len() > 16 {
+        return None;
+    }
     let mut number = 0;
     for b in digits {
         number = 16 * number + u64::from(hex_digit(*b)?);
     }
     Some(number)
+}
+
+// The number that 16 hex digits are.
+#[tactic(auto, unfolding(crate::specs::Digits::hex_number, crate::specs::Digits::read_hex))]
+fn hex_number(text: &[u8]) -> Option<u64>
+    ensures { result ≡ hex_number text.now }
+{
+    if text.len() == 16 {
+        read_hex(text)
+    } else {
+        None
+    }
 }
 
 // A letter, and the time behind it.
@@ -87,6 +102,7 @@ pub fn read_command(line: &[u8]) -> Option<Command>
 }
 
 // A line is a command exactly when it is that command's text.
+#[tactic(auto, using(crate::proofs::Texts::command_lines))]
 pub fn command_lines()
     ensures { CommandLines }
 {}

@@ -1,5 +1,5 @@
 -- The bounds hold, and up to entry 1,199 they leave one whole number, which so obeys the rule. Computed: two powers, and that the bounds agree. Assumes nothing.
-use mathlib.Core.Path.{◌≡◌, refl, sym}
+use mathlib.Core.Path.{◌≡◌, refl, sym, ◌∙◌}
 use mathlib.Core.Bool.{Bool, true, ◌&&◌}
 use Prim.Native.Nat.{ℕ, zero, suc, ◌+◌, ◌*◌, ◌/◌, ◌^◌, ◌≤◌, ◌<◌}
 use native.Mathlib.Nat.{le_trans, le_of_eq, lt_irrefl, lt_of_le_of_lt, lt_of_not-le, le_of_suc-le-suc, not-suc-le-zero, pow-suc, pow-le-pow_left, add-zero, zero-add, add-suc, suc-add}
@@ -8,8 +8,9 @@ use lib.Dec.{T, eqb, leb→le, eqb→eq}
 use lib.Ieee.Fits.{and_l, and_r}
 use lib.Pow.{pow_pos, pow-add, pow-lt}
 use Rattle.lists.specs.Table.{table, length_table, get_or_table}
-use Rattle.detune.specs.Statement.{IsTable}
+use Rattle.detune.specs.Statement.{IsTable, TheTable}
 use Rattle.detune_table.specs.Bounds.{LOW, lower, upper, found}
+use Rattle.detune_table.specs.Statement.{Generated}
 use Rattle.detune_table.proofs.Steps.{below_next, above_next, left_low, left_high}
 
 -- ---- the bounds hold: LOW and LOW + 1 are those of 2^(1/1200) × 2^62, and the others are multiplied on
@@ -29,10 +30,10 @@ unfolding upper
 high zero = le_of_eq refl
 high (suc c) = rw (pow-suc 2 c) (above_next 1200 (2 ^ 62) (pow_pos 62) (upper c) (LOW + 1) (2 ^ c) 2 (high c) high_holds)
 
-pub below : (c : ℕ) → lower c ^ 1200 ≤ 2 ^ (c + 74400)
+below : (c : ℕ) → lower c ^ 1200 ≤ 2 ^ (c + 74400)
 below c = le_trans (low c) (le_of_eq (sym (pow-add 2 c 74400)))
 
-pub above : (c : ℕ) → 2 ^ (c + 74400) ≤ upper c ^ 1200
+above : (c : ℕ) → 2 ^ (c + 74400) ≤ upper c ^ 1200
 above c = le_trans (le_of_eq (pow-add 2 c 74400)) (high c)
 
 -- ---- a bound that is multiplied on fits a word
@@ -58,7 +59,7 @@ agree_from zero k c t h = absurd (not-suc-le-zero h)
 agree_from (suc n) k zero t h = rw add-zero (eqb→eq (lower k / 2 ^ 32) (upper k / 2 ^ 32) (and_l (same k) (agreeing n (lower (suc k)) (upper (suc k))) t))
 agree_from (suc n) k (suc c) t h = rw add-suc (rw suc-add at (agree_from n (suc k) c (and_r (same k) (agreeing n (lower (suc k)) (upper (suc k))) t) (le_of_suc-le-suc h)))
 
-pub agree : (c : ℕ) → c < 1200 → upper c / 2 ^ 32 ≡ found c
+agree : (c : ℕ) → c < 1200 → upper c / 2 ^ 32 ≡ found c
 unfolding found
 agree c h = sym (rw zero-add at (agree_from 1200 0 c agreed h))
 
@@ -73,5 +74,11 @@ obeys_high c h =
     rw (← agree c h)
     (lt_of_le_of_lt (le_of_eq (pow-add 2 c 36000)) (left_high 1200 (2 ^ 30) (2 ^ 32) (pow_pos 32) (lower c) (upper c) (2 ^ c) (λ z. not-suc-le-zero {n = 0} (omega arith)) (high c)))
 
-pub found_is_table : IsTable (table 1200 found)
+found_is_table : IsTable (table 1200 found)
 found_is_table = (length_table 1200 found, λ c h. rw (get_or_table 1200 found c 0 h) (obeys_low c, obeys_high c h))
+
+-- what is found obeys the rule, and the table is the only list that does
+pub generated : TheTable → Generated
+generated the =
+    let same = sym (the.only (table 1200 found) found_is_table) in
+    record { below = below; above = above; agree = agree; obeys = found_is_table; only = λ l h. the.only l h ∙ same; same = same }

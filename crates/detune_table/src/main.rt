@@ -28,13 +28,15 @@ fn scaled(a: u64, b: u64) -> u64
 }
 
 // What is found obeys the rule, and is the table.
+#[tactic(auto, using(crate::proofs::Found::generated))]
 fn generated()
     ensures { Generated }
 {
     detune::the_table();
 }
 
-// Stores the text of the table, and returns its length.
+// Stores the text of the table, and returns its length: there is no heap for a `Vec`.
+#[tactic(auto, using(crate::proofs::Found::lower_fits), unfolding(crate::specs::Bounds::lower))]
 fn put_table(out: &mut [u8; ROOM]) -> usize
     ensures { (result ≤ 25200) × (take result out.new ≡ table_text entries) }
 {

@@ -1,5 +1,5 @@
 -- What a line prints fits the room that is asked for. Assumes nothing.
-use Rattle.std.proofs.Common.{le_trans, ◌≡◌, ℕ, ◌≤◌, List, length, refl, ap, arith}
+use Rattle.std.proofs.Common.{le_trans, ◌≡◌, ℕ, ◌≤◌, List, length, refl, arith}
 use Rattle.commands.specs.Commands.{command}
 use Rattle.text.specs.Lines.{refusal_text, block_room}
 use Rattle.text.proofs.Lengths.{length_field, length_block}
@@ -14,8 +14,7 @@ use Rattle.buffer.specs.declared.refusals.Refusal.{Refusal}
 use Rattle.std.specs.Prelude.{Result, Ok, Err, Option, Some, None}
 use Rattle.buffer.specs.Refusals.{number}
 use Rattle.obeying.specs.declared.Session.{Session}
-use Rattle.obeying.specs.declared.Answer.{Answer}
-use Rattle.obeying.specs.Obeying.{refused, after_message, sent, block_time, after_block, played_words, played, done, obeyed, answer_of}
+use Rattle.obeying.specs.Obeying.{refused, after_message, sent, block_time, after_block, played_words, played, done, obeyed}
 use Rattle.obeying.proofs.Accepted.{few_channels}
 use Rattle.player.specs.declared.Player.{Player}
 
@@ -55,6 +54,3 @@ done_fits samples s words None = refusal_fits s 0
 pub obeyed_fits : (samples : List ℕ) (s : Session) (words line : List ℕ) → length (obeyed samples s words line).reply.text ≤ block_room
 unfolding obeyed
 obeyed_fits samples s words line = done_fits samples s words (command line)
-
-pub answer_fits : (samples : List ℕ) (s : Session) (words line : List ℕ) (room : ℕ) (a : Answer) → a ≡ answer_of (obeyed samples s words line).reply → block_room ≤ room → a.printed ≤ room
-answer_fits samples s words line room a is fits = omega (arith, ap (λ (x : Answer). x.printed) is, obeyed_fits samples s words line)

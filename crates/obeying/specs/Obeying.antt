@@ -33,6 +33,11 @@ pub record Reply : Type 0 where
 abbrev pub reply : Session → List ℕ → Reply
 reply s text = record { session = s; text = text }
 
+-- the number that is printed: 0 for a line that is no command
+abbrev pub number_of : Option Refusal → ℕ
+number_of (Some refusal) = number refusal
+number_of None = 0
+
 -- 'A refusal prints `X` and its number'
 unfoldable pub refused : Session → ℕ → Reply
 refused s number = reply s (refusal_text number)

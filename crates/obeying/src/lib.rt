@@ -3,10 +3,11 @@
 
 ghost use Rattle.std.specs.Prelude.{◌≡◌, ◌≤◌, length};
 ghost use Rattle.std.proofs.lemmas.List.Edits.{sets};
-ghost use Rattle.obeying.specs.Obeying.{refused, sent, counted, block_time, played_words, played, obeyed};
+ghost use Rattle.obeying.specs.Obeying.{number_of, refused, sent, counted, block_time, played_words, played, obeyed};
 ghost use Rattle.obeying.specs.Obeying.{has_room, answer_of, answered, words_after, out_after, written};
 ghost use Rattle.obeying.specs.Statement.{LateBlocks};
 
+use buffer::Refusal;
 use commands::Command;
 use player::{ControlMessage, Player};
 use rounding::{BinaryFloat, whole};
@@ -29,21 +30,28 @@ pub struct Answer {
 // The most `B` lines that are counted.
 const MOST_BLOCKS: usize = 35_184_372_088_832;
 
-// Prints a refusal.
-fn refuse(session: Session, number: u32, out: &mut [u8; BLOCK_ROOM]) -> Answer
-    ensures { (result ≡ answer_of (refused session number)) × (out.new ≡ sets out.old 0 (refused session number).text) }
+// Prints a refusal; none is that of a line that is no command.
+#[tactic(auto, unfolding(crate::specs::Obeying::refused, text::specs::Lines::printed, text::specs::Lines::printed_out))]
+fn refuse(session: Session, why: Option<Refusal>, out: &mut [u8; BLOCK_ROOM]) -> Answer
+    ensures { let reply = refused session (number_of why) in
+        (result ≡ answer_of reply) × (out.new ≡ sets out.old 0 reply.text) }
 {
+    let number = match why {
+        Some(refusal) => refusal.number(),
+        None => 0,
+    };
     let printed = text::refusal_text(number, out).unwrap_or(0);
     Answer { session, printed }
 }
 
 // Sends a control message.
+#[tactic(auto, unfolding(crate::specs::Obeying::sent, crate::specs::Obeying::after_message))]
 fn tell(mut session: Session, message: ControlMessage, out: &mut [u8; BLOCK_ROOM]) -> Answer
     ensures { (result ≡ answer_of (sent session message)) × (out.new ≡ sets out.old 0 (sent session message).text) }
 {
     match session.player.handle_control_message(message) {
         Ok(next) => session.player = next,
-        Err(refusal) => return refuse(session, refusal.number(), out),
+        Err(refusal) => return refuse(session, Some(refusal), out),
     }
     Answer {
         session,
@@ -58,14 +66,16 @@ fn counted(number: usize) -> usize
 }
 
 // The time of the next block.
+#[tactic(auto, unfolding(crate::specs::Obeying::block_time))]
 fn block_time(session: Session) -> f64
     ensures { result ≡ block_time session }
 {
-    let rate = std::num::f32_to_f64_with_nan(session.player.sample_rate);
+    let rate = f64::from(session.player.sample_rate);
     whole(128 * counted(session.number)) / rate
 }
 
 // Renders a block into `words`, and prints it.
+#[tactic(auto, unfolding(crate::specs::Obeying::played, crate::specs::Obeying::played_words, crate::specs::Obeying::after_block))]
 fn play(
     mut session: Session,
     samples: &[u32],
@@ -81,7 +91,7 @@ fn play(
     session.number = counted(number) + 1;
     let report = match session.player.process(words, samples, time, 1.0, 1.0) {
         Ok(report) => report,
-        Err(refusal) => return refuse(session, refusal.number(), out),
+        Err(refusal) => return refuse(session, Some(refusal), out),
     };
     session.player = report.player;
     let text = text::block_text(
@@ -96,7 +106,9 @@ fn play(
     Answer { session, printed }
 }
 
-// Obeys a line where there is room for what it prints.
+// Obeys a line where there is room for what it prints. The lent slices go one by one: in one struct each
+// contract would have to say that the others stay.
+#[tactic(auto, unfolding(crate::specs::Obeying::obeyed, crate::specs::Obeying::done))]
 fn obey_line(
     session: Session,
     line: &[u8],
@@ -108,8 +120,9 @@ fn obey_line(
         (result ≡ answer_of o.reply) × (words.new ≡ o.words) × (out.new ≡ sets out.old 0 o.reply.text) }
 {
     let Some(command) = commands::read_command(line) else {
-        return refuse(session, 0, out);
+        return refuse(session, None, out);
     };
+    // No `From`: both types are of other crates, and `Block` is no message.
     let message = match command {
         Command::Start(when, offset, duration) => {
             ControlMessage::Start(
@@ -129,6 +142,7 @@ fn obey_line(
 
 // Obeys a line: `samples` are the clip's, `words` takes the block, and `out` what is printed. None
 // where any block's text might lack room in the output, and then nothing is done.
+#[tactic(auto, using(crate::proofs::Lengths::obeyed_fits), unfolding(crate::specs::Obeying::answered, crate::specs::Obeying::words_after, crate::specs::Obeying::out_after))]
 pub fn obey(
     session: Session,
     line: &[u8],
@@ -147,6 +161,7 @@ pub fn obey(
 }
 
 // A block past the last number that is counted is refused with 13 at every allowed rate.
+#[tactic(auto, using(crate::proofs::Late::late_blocks))]
 pub fn late_blocks()
     ensures { LateBlocks }
 {}

@@ -1,6 +1,7 @@
-// Runs recorded vectors of `rounding` and `fused`: what a processor answered (tools/rounding_vectors makes them).
-// A line of standard input has 70 bytes: the operation, a hex digit; three operands and the answer, 16
-// hex digits each; a space before each, and the line's end.
+// Runs recorded vectors of `rounding` and `fused`: what a processor answered
+// (tools/rounding_vectors makes them). A line of standard input has 70 bytes: the operation, a
+// hex digit; three operands and the answer, 16 hex digits each; a space before each, and the
+// line's end.
 #![tactic(auto)]
 
 ghost use Rattle.std.specs.Prelude.{◌<◌};
@@ -13,15 +14,13 @@ use std::io;
 use std::io::{ErrorKind, Read};
 use tally::Tally;
 
-// The value of an upper-case hex digit, and 0 for any other byte.
+// The value of a digit; a byte that is none counts as 0, that of the operation too, so that the program
+// answers any line.
+#[tactic(auto, using(commands::proofs::Hex::digit_small))]
 fn digit(c: u8) -> u8
     ensures { result < 16 }
 {
-    match c {
-        b'0'..=b'9' => c - b'0',
-        b'A'..=b'F' => c - b'A' + 10,
-        _ => 0,
-    }
+    commands::hex_digit(c).unwrap_or(0)
 }
 
 // The number of hex digits, the highest first.

@@ -42,12 +42,13 @@ impl Operation {
         Operation::FmaNarrow,
     ];
 
-    pub fn of(code: u8) -> Option<Operation> {
+    // Of a code; an `Option`, since a line of another code is no error: it is run and not counted.
+    pub(crate) fn of(code: u8) -> Option<Operation> {
         Operation::ALL.get(code as usize).copied()
     }
 
     // What the crates answer, as a pattern or a number.
-    pub fn answer(self, operands: [u64; 3]) -> u64 {
+    pub(crate) fn answer(self, operands: [u64; 3]) -> u64 {
         let [a, b, c] = operands;
         let x = f64::from_pattern(a);
         let y = f64::from_pattern(b);

@@ -8,7 +8,7 @@ pub struct Tally {
 }
 
 impl Tally {
-    pub fn count(&mut self, differs: bool) {
+    pub(crate) fn count(&mut self, differs: bool) {
         self.runs = self.runs.wrapping_add(1);
         self.differ = self.differ.wrapping_add(u64::from(differs));
     }

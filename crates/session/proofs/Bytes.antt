@@ -1,29 +1,25 @@
 -- A byte of the input, and bytes one after another. Assumes nothing.
 use mathlib.Core.Path.{◌≡◌, refl, sym, ap, ◌∙◌}
-use mathlib.Core.Bool.{Bool, true, false, ◌&&◌, cond, true≢false}
+use mathlib.Core.Bool.{Bool, true, false, ◌&&◌, cond}
 use mathlib.Core.List.{List, [], ◌∷◌, ◌++◌}
 use Prim.Native.Nat.{ℕ, ◌+◌, ◌-◌, ◌≤◌, ◌<◌, min}
 use native.Mathlib.Numerals.{add-one}
 use native.Mathlib.Omega.{arith}
-use borrow.Author.Tests.{ltb-false, leb-true, leb-false, le-leb, lt-leb, le-ltb, eq-eqb, ne_eqb}
+use borrow.Author.Tests.{ltb-false, leb-true, leb-false, le-leb, lt-leb, le-ltb}
 use lib.Dec.{leb, ltb, eqb}
-use lib.ListN.{length, get_or, take, drop, set, length-append, length-take, length-drop, drop_of_length-le}
-use lib.Seq.{sets, length-sets, length-take-le, take_all, take-length, drop-cons}
+use lib.ListN.{length, get_or, take, drop, length-append, drop_of_length-le}
+use lib.Seq.{sets, length-sets, take_all, take-length, drop-cons}
 use Rattle.text.specs.Lines.{NEWLINE, block_room}
 use Rattle.session.proofs.Stores.{sets_append, part_back}
-use Rattle.obeying.specs.declared.Session.{Session}
-use Rattle.obeying.specs.declared.Answer.{Answer}
 use Rattle.session.specs.declared.State.{State}
 use Rattle.session.specs.declared.Taken.{Taken}
 use Rattle.session.specs.declared.Fed.{Fed}
-use Rattle.std.specs.Prelude.{Option, Some, None}
-use Rattle.obeying.specs.Obeying.{reply, Outcome, outcome, obeyed, has_room, answer_of, answered, words_after, out_after}
-use Rattle.session.specs.Feeding.{Run, run_of, line_obeyed, ended, lengthened, extended, stepped, said, Progress, progress, advanced, feeding, goes_on, fed, finished, taken_of, fed_of}
+use Rattle.session.specs.Feeding.{Run, run_of, line_obeyed, stepped, said, Progress, progress, advanced, feeding, goes_on, fed, taken_of, fed_of}
 use Rattle.obeying.proofs.Lengths.{obeyed_fits}
 
 -- ---- lists
 -- the first k elements, if there are so many
-take_min : (k : ℕ) (l : List ℕ) → take (min k (length l)) l ≡ take k l
+pub take_min : (k : ℕ) (l : List ℕ) → take (min k (length l)) l ≡ take k l
 take_min k l = go (leb k (length l)) (leb-true k (length l)) (leb-false k (length l))
   where
     go : (t : Bool) → (t ≡ true → k ≤ length l) → (t ≡ false → length l < k) → take (min k (length l)) l ≡ take k l
@@ -36,61 +32,7 @@ take_min k l = go (leb k (length l)) (leb-true k (length l)) (leb-false k (lengt
         let e : min k (length l) ≡ length l = omega arith in
         ap (λ m. take m l) e ∙ take-length l ∙ sym (take_all k l (omega arith))
 
-pub length_within : (n k : ℕ) (l : List ℕ) → n ≡ min k (length l) → n ≡ length (take n l)
-length_within n k l e = sym (length-take-le n l (omega arith))
-
--- ---- texts stored one after another
--- ---- room
-pub rest_length : (out : List ℕ) (printed : ℕ) → printed + block_room ≤ length out → block_room ≤ length (take (length out - printed) (drop printed out))
-rest_length out printed h = simp (length-take, length-drop) (omega arith)
-
-pub room_left : (printed room : ℕ) → printed ≤ room → leb block_room (room - printed) ≡ leb (printed + block_room) room
-room_left printed room h = go (leb block_room (room - printed)) (leb-true block_room (room - printed)) (leb-false block_room (room - printed))
-  where
-    go : (t : Bool) → (t ≡ true → block_room ≤ room - printed) → (t ≡ false → room - printed < block_room) → t ≡ leb (printed + block_room) room
-    go true p q = let k = p refl in sym (le-leb (printed + block_room) room (omega arith))
-    go false p q = let k = q refl in sym (lt-leb (printed + block_room) room (omega arith))
-
 -- ---- a byte
-abbrev taken_by : Session → ℕ → ℕ → Taken
-taken_by s len printed = record { state = record { session = s; len = len }; printed = printed }
-
--- what a line is answered where a block's text has room
-module _ (samples : List ℕ) (r : Run) (n : ℕ) (out words after : List ℕ) (x : Option Answer) (room : block_room ≤ length out)
-    (says : let o = obeyed samples r.session r.words (take n r.line) in
-    (x ≡ answered (has_room out) o) × (words ≡ words_after (has_room out) o r.words) × (after ≡ out_after (has_room out) o out)) where
-  abbrev o : Outcome
-  o = obeyed samples r.session r.words (take n r.line)
-
-  with_room : (x ≡ Some (answer_of o.reply)) × (words ≡ o.words) × (after ≡ sets out 0 o.reply.text)
-  unfolding answered words_after out_after
-  with_room = rw (le-leb block_room (length out) room) at says
-
-  pub line_answered : (a : Answer) → x ≡ Some a → (a ≡ answer_of o.reply) × (words ≡ o.words) × (after ≡ sets out 0 o.reply.text)
-  line_answered a is =
-      let all = with_room in
-      let e : Some a ≡ Some (answer_of o.reply) = sym is ∙ all.0 in
-      (cc, all.1, all.2)
-
-  pub never_without : {A : Type 0} → x ≡ None → A
-  never_without is =
-      let e : None ≡ Some (answer_of o.reply) = sym is ∙ with_room.0 in
-      absurd (true≢false cc)
-
-pub newline_taken : (samples : List ℕ) (r : Run) (b n : ℕ) (a : Answer) (words out after : List ℕ) → b ≡ NEWLINE → n ≡ min r.len (length r.line)
-    → a ≡ answer_of (obeyed samples r.session r.words (take n r.line)).reply → words ≡ (obeyed samples r.session r.words (take n r.line)).words
-    → after ≡ sets out 0 (obeyed samples r.session r.words (take n r.line)).reply.text
-    → (taken_by a.session 0 a.printed ≡ taken_of samples r b) × (r.line ≡ (stepped samples r b).line) × (words ≡ (stepped samples r b).words) × (after ≡ sets out 0 (said samples r b))
-unfolding stepped said ended line_obeyed
-newline_taken samples r b n a words out after is most replied wrote printed =
-    let whole : take n r.line ≡ take r.len r.line = ap (λ k. take k r.line) most ∙ take_min r.len r.line in
-    simp (eq-eqb b NEWLINE is) (ap (λ (x : Answer). taken_by x.session 0 x.printed) (rw whole at replied), refl, rw whole at wrote, rw whole at printed)
-
-pub byte_kept : (samples : List ℕ) (r : Run) (b len : ℕ) (line out : List ℕ) → (b ≡ NEWLINE → ⊥) → len ≡ lengthened r.len (length r.line) → line ≡ set r.line r.len b
-    → (taken_by r.session len 0 ≡ taken_of samples r b) × (line ≡ (stepped samples r b).line) × (r.words ≡ (stepped samples r b).words) × (out ≡ sets out 0 (said samples r b))
-unfolding stepped said extended
-byte_kept samples r b len line out other longer put = simp (ne_eqb b NEWLINE other) (ap (λ k. taken_by r.session k 0) longer, put, refl, refl)
-
 pub said_fits : (samples : List ℕ) (r : Run) (b : ℕ) → length (said samples r b) ≤ block_room
 unfolding said line_obeyed
 said_fits samples r b = go (eqb b NEWLINE) _ (obeyed_fits samples r.session r.words (take r.len r.line))
@@ -98,17 +40,6 @@ said_fits samples r b = go (eqb b NEWLINE) _ (obeyed_fits samples r.session r.wo
     go : (t : Bool) (l : List ℕ) → length l ≤ block_room → length (cond t l []) ≤ block_room
     go true l h = h
     go false l h = omega arith
-
--- ---- the end
-pub nothing_left : (samples : List ℕ) (r : Run) → r.len ≡ 0 → finished samples r ≡ outcome (reply r.session []) r.words
-unfolding finished
-nothing_left samples r e = rw (eq-eqb r.len 0 e)
-
-pub line_left : (samples : List ℕ) (r : Run) (n : ℕ) → (r.len ≡ 0 → ⊥) → n ≡ min r.len (length r.line) → finished samples r ≡ obeyed samples r.session r.words (take n r.line)
-unfolding finished line_obeyed
-line_left samples r n some most =
-    let whole : take n r.line ≡ take r.len r.line = ap (λ k. take k r.line) most ∙ take_min r.len r.line in
-    simp (ne_eqb r.len 0 some) (ap (obeyed samples r.session r.words) (sym whole))
 
 abbrev fed_by : State → ℕ → ℕ → Fed
 fed_by state taken printed = record { state = state; taken = taken; printed = printed }
@@ -150,7 +81,7 @@ module _ (samples input out₀ : List ℕ) (start : Run) where
   unfolding feeding
   feeding_more f i below room = rw (drop-cons input i 0 below, le-leb (length f.text + block_room) (length out₀) room, add-one i)
 
-  pub reached-more : (line words out line' words' part out' : List ℕ) (state : State) (taken printed : ℕ) (step : Taken) → Reached line words out state taken printed
+  pub reached_more : (line words out line' words' part out' : List ℕ) (state : State) (taken printed : ℕ) (step : Taken) → Reached line words out state taken printed
       → taken < length input → printed + block_room ≤ length out
       → step ≡ taken_of samples (run_of state line words) (get_or input taken 0) → line' ≡ (stepped samples (run_of state line words) (get_or input taken 0)).line
       → words' ≡ (stepped samples (run_of state line words) (get_or input taken 0)).words
@@ -158,7 +89,7 @@ module _ (samples input out₀ : List ℕ) (start : Run) where
       → out' ≡ take printed out ++ (part ++ drop (length out - printed) (drop printed out))
       → Reached line' words' out' step.state (taken + 1) (printed + step.printed)
   unfolding advanced
-  reached-more line words out line' words' part out' state taken printed step at below room is wroteLine wroteWords wrotePart back =
+  reached_more line words out line' words' part out' state taken printed step at below room is wroteLine wroteWords wrotePart back =
       let r = run_of state line words in
       let b = get_or input taken 0 in
       let text = at.text in

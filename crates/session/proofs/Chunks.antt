@@ -24,7 +24,7 @@ use Rattle.session.specs.declared.Fed.{Fed}
 use Rattle.obeying.specs.Obeying.{Outcome, obeyed}
 use Rattle.session.specs.Feeding.{Run, run, line_obeyed, ended, lengthened, extended, stepped, said, Progress, progress, advanced, fits_behind, feeding, fed, finished, fed_of, Moves}
 use Rattle.session.specs.Transcript.{lines_from, texts}
-use Rattle.session.specs.Statement.{Call, left, bytes, printed, long_enough, AnyCalls, calls_for, calls_of, joined, WholeInput}
+use Rattle.session.specs.Statement.{Call, left, bytes, printed, long_enough, AnyCalls, calls_for, calls_of, joined, WholeInput, TranscriptOfChunks}
 use Rattle.session.proofs.Bytes.{said_fits}
 
 -- ---- a line that is longer than any command's text is none, and so is its front
@@ -269,3 +269,6 @@ pub whole_input : WholeInput
 whole_input samples s line words room chunks wide fits =
     let r = run s line 0 words in
     any_calls samples s line words (calls_of samples room r chunks) wide ∙ ap (λ (l : List ℕ). texts samples s words (lines_from [] l)) (all_bytes samples room fits r chunks)
+
+pub chunks_told : TranscriptOfChunks
+chunks_told = (any_calls, whole_input)

@@ -11,8 +11,9 @@ use text::BLOCK_ROOM;
 
 const NEWLINE: u8 = 10;
 
-// Puts a byte behind the `len` bytes of the line so far, and returns the length then. Bytes past the
-// end of `line` are left out: it is longer than any command.
+// Puts a byte behind the `len` bytes of the line so far, and returns the length then. Bytes past
+// the end of `line` are left out: it is longer than any command.
+#[tactic(auto, unfolding(crate::specs::Feeding::lengthened))]
 fn keep(len: usize, b: u8, line: &mut [u8]) -> usize
     ensures { (result ≡ lengthened len (length line.old)) × (line.new ≡ set line.old len b) }
 {
@@ -24,6 +25,7 @@ fn keep(len: usize, b: u8, line: &mut [u8]) -> usize
 }
 
 // Takes a byte: a newline ends a line, which is obeyed.
+#[tactic(auto, using(crate::proofs::Bytes::take_min), unfolding(crate::specs::Feeding::stepped, crate::specs::Feeding::said, crate::specs::Feeding::ended, crate::specs::Feeding::extended, crate::specs::Feeding::line_obeyed, obeying::specs::Obeying::answered, obeying::specs::Obeying::words_after, obeying::specs::Obeying::out_after))]
 fn take_byte(
     state: State,
     b: u8,
@@ -64,8 +66,9 @@ fn take_byte(
 }
 
 // Takes the bytes of `input` until they are used up or `out` lacks room: `line` holds the line so
-// far, `samples` are the clip's, `words` takes the blocks, and `out` what is printed. In one struct of
-// lent slices each contract would have to say that the others stay.
+// far, `samples` are the clip's, `words` takes the blocks, and `out` what is printed. In one
+// struct of lent slices each contract would have to say that the others stay.
+#[tactic(auto, using(crate::proofs::Bytes::said_fits, crate::proofs::Bytes::step_fits, crate::proofs::Bytes::reached_length, crate::proofs::Bytes::reached_more, crate::proofs::Chunks::fed_moves))]
 pub fn feed(
     start: State,
     input: &[u8],
@@ -104,6 +107,7 @@ pub fn feed(
 
 // Obeys a last line that lacks its newline. None where any block's text might lack room in the
 // output, and then nothing is done.
+#[tactic(auto, using(crate::proofs::Bytes::take_min), unfolding(crate::specs::Feeding::finished, crate::specs::Feeding::line_obeyed, obeying::specs::Obeying::answered, obeying::specs::Obeying::words_after, obeying::specs::Obeying::out_after))]
 pub fn finish(
     state: State,
     line: &[u8],

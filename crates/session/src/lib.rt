@@ -9,9 +9,9 @@ ghost use Rattle.session.specs.Statement.{TranscriptOfChunks};
 pub use feeding::{feed, finish};
 use obeying::Session;
 
-// What is carried from byte to byte of the input: the session, and the length of the line so far. The
-// line's bytes stand in a slice of any length that the caller lends: a buffer of its own would promise
-// less.
+// What is carried from byte to byte of the input: the session, and the length of the line so far.
+// The line's bytes stand in a slice of any length that the caller lends: a buffer of its own
+// would promise less.
 #[derive(Drop)]
 pub struct State {
     pub session: Session,
@@ -35,6 +35,7 @@ pub struct Fed {
 
 // However an input is cut into chunks, what `feed` and `finish` print is the transcript of its
 // lines.
+#[tactic(auto, using(crate::proofs::Chunks::chunks_told))]
 pub fn transcript_of_chunks()
     ensures { TranscriptOfChunks }
 {}

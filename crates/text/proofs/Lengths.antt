@@ -2,7 +2,7 @@
 use Rattle.std.proofs.Common.{List, [], ◌∷◌, ◌++◌, Bool, true, false, cond, ℕ, zero, suc, ◌+◌, ◌*◌, ◌≤◌, eqb, length, take, drop, length-append, length-take, arith}
 use Rattle.commands.specs.Digits.{flag}
 use Rattle.commands.proofs.Lengths.{length_hex, length_decimal}
-use Rattle.text.specs.Lines.{field, run_line, runs_from, runs, channel_lines, block_line, block_text}
+use Rattle.text.specs.Lines.{field, run_line, runs_from, runs, channel_lines, block_line, block_text, refusal_text}
 
 pub length_field : (v after : ℕ) → length (field v after) ≤ 21
 unfolding field
@@ -39,3 +39,7 @@ length_line n c k e = simp length-append (omega (arith, length_field n 32, lengt
 pub length_block : (n c : ℕ) (k e : Bool) (words : List ℕ) → length (block_text n k e c words) ≤ 128 + 9216 * c
 unfolding block_text
 length_block n c k e words = simp length-append (omega (arith, length_line n c k e, length_channels c 0 words))
+
+pub length_refusal : (n : ℕ) → length (refusal_text n) ≤ 23
+unfolding refusal_text
+length_refusal n = omega (arith, length_field n 10)

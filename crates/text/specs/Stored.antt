@@ -22,6 +22,5 @@ put s [] = s
 put s (b ∷ bs) = put (put_byte s b) bs
 
 -- the text t is stored behind what was printed before
-pub record Prints (old new : Text) (t : List ℕ) : Type 0 where
-  pub text : stored_of new ≡ put (stored_of old) t
-  pub same_slice : new.out.ghost_name ≡ old.out.ghost_name
+abbrev pub Prints : Text → Text → List ℕ → Type 0
+Prints old new t = (stored_of new ≡ put (stored_of old) t) × (new.out.ghost_name ≡ old.out.ghost_name)

@@ -14,6 +14,7 @@ const NEWLINE: u8 = b'\n';
 
 impl Text<'_> {
     // The line of a run.
+    #[tactic(auto, using(crate::proofs::Texts::put_append), unfolding(crate::specs::Lines::run_line))]
     fn run(&mut self, channel: usize, first: usize, count: usize, bits: u32)
         ensures { Prints self.old self.new (run_line channel first count bits) }
     {
@@ -25,6 +26,7 @@ impl Text<'_> {
     }
 
     // The lines of a channel's words, one for each run of equal bits.
+    #[tactic(auto, using(crate::proofs::Runs::runs_done), unfolding(crate::specs::Stored::put))]
     fn runs(&mut self, channel: usize, words: &[u32])
         ensures { Prints self.old self.new (runs channel 0 words.now) }
     {
@@ -36,6 +38,7 @@ impl Text<'_> {
     }
 
     // The lines of the first `channels` channels, of 128 words each.
+    #[tactic(auto, using(crate::proofs::Runs::channels_done), unfolding(crate::specs::Stored::put))]
     fn channels(&mut self, channels: usize, words: &[u32])
         ensures { Prints self.old self.new (channel_lines channels 0 words.now) }
     {
@@ -44,6 +47,7 @@ impl Text<'_> {
         }
     }
 
+    #[tactic(auto, using(crate::proofs::Texts::put_append, crate::proofs::Texts::flag_is), unfolding(crate::specs::Lines::block_line, crate::specs::Stored::put))]
     fn block_line(&mut self, number: usize, keep_alive: bool, ended: bool, channels: usize)
         ensures { Prints self.old self.new (block_line number keep_alive ended channels) }
     {
@@ -54,11 +58,37 @@ impl Text<'_> {
         self.field(usize::from(ended), SPACE);
         self.field(channels, NEWLINE);
     }
+
+    // The lines of a block. Its values go one by one: `text` knows no player, and so no report.
+    #[tactic(auto, using(crate::proofs::Texts::put_append), unfolding(crate::specs::Lines::block_text))]
+    fn block(
+        &mut self,
+        number: usize,
+        keep_alive: bool,
+        ended: bool,
+        channels: usize,
+        words: &[u32],
+    )
+        ensures { Prints self.old self.new (block_text number keep_alive ended channels words.now) }
+    {
+        self.block_line(number, keep_alive, ended, channels);
+        self.channels(channels, words);
+    }
+
+    // The line of a refusal.
+    #[tactic(auto, unfolding(crate::specs::Lines::refusal_text, crate::specs::Stored::put))]
+    fn refusal(&mut self, number: u32)
+        ensures { Prints self.old self.new (refusal_text number) }
+    {
+        self.byte(b'X');
+        self.byte(SPACE);
+        self.field(number as usize, NEWLINE);
+    }
 }
 
 // Prints a block: its number, its flags and channels, and for each channel the runs of equal bits.
 // None where a slice lacks its length, or room for any text of a block.
-#[tactic(auto, unfolding(crate::specs::Lines::fits, crate::specs::Lines::printed, crate::specs::Lines::printed_out))]
+#[tactic(auto, using(crate::proofs::Texts::put_whole, crate::proofs::Lengths::length_block), unfolding(crate::specs::Lines::fits, crate::specs::Lines::printed, crate::specs::Lines::printed_out))]
 pub fn block_text(
     number: usize,
     keep_alive: bool,
@@ -76,13 +106,12 @@ pub fn block_text(
         return None;
     }
     let mut text = Text::new(out);
-    text.block_line(number, keep_alive, ended, channels);
-    text.channels(channels, words);
+    text.block(number, keep_alive, ended, channels, words);
     Some(text.len())
 }
 
-// Prints a refusal.
-#[tactic(auto, unfolding(crate::specs::Lines::printed, crate::specs::Lines::printed_out))]
+// Prints a refusal: any number, as 0 is that of a line which is no command.
+#[tactic(auto, using(crate::proofs::Texts::put_whole, crate::proofs::Lengths::length_refusal), unfolding(crate::specs::Lines::printed, crate::specs::Lines::printed_out))]
 pub fn refusal_text(number: u32, out: &mut [u8]) -> Option<usize>
     ensures { (result ≡ printed (leb 23 (length out.old)) (refusal_text number))
         × (out.new ≡ printed_out (leb 23 (length out.old)) (refusal_text number) out.old) }
@@ -91,14 +120,12 @@ pub fn refusal_text(number: u32, out: &mut [u8]) -> Option<usize>
         return None;
     }
     let mut text = Text::new(out);
-    text.byte(b'X');
-    text.byte(SPACE);
-    text.field(number as usize, NEWLINE);
+    text.refusal(number);
     Some(text.len())
 }
 
 // Prints a number on a line of its own.
-#[tactic(auto, unfolding(crate::specs::Lines::printed, crate::specs::Lines::printed_out))]
+#[tactic(auto, using(crate::proofs::Texts::put_whole, crate::proofs::Lengths::length_field), unfolding(crate::specs::Lines::printed, crate::specs::Lines::printed_out))]
 pub fn number_line(v: usize, out: &mut [u8]) -> Option<usize>
     ensures { (result ≡ printed (leb 21 (length out.old)) (field v NEWLINE))
         × (out.new ≡ printed_out (leb 21 (length out.old)) (field v NEWLINE) out.old) }

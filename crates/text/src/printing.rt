@@ -47,6 +47,7 @@ impl<'a> Text<'a> {
     }
 
     // Eight hex digits.
+    #[tactic(auto, using(crate::proofs::Texts::hex_more, crate::proofs::Texts::hex_done), unfolding(crate::specs::Stored::put))]
     pub(crate) fn hex(&mut self, v: u32)
         ensures { Prints self.old self.new (hex 8 v) }
     {
@@ -55,6 +56,7 @@ impl<'a> Text<'a> {
         }
     }
 
+    #[tactic(auto, using(crate::proofs::Texts::put_append, crate::proofs::Texts::decimal_more, crate::proofs::Texts::decimal_less), unfolding(crate::specs::Stored::put))]
     pub(crate) fn decimal(&mut self, v: usize)
         ensures { Prints self.old self.new (decimal v) }
     {
@@ -65,6 +67,7 @@ impl<'a> Text<'a> {
     }
 
     // A decimal and the byte after it.
+    #[tactic(auto, using(crate::proofs::Texts::put_append), unfolding(crate::specs::Lines::field))]
     pub(crate) fn field(&mut self, v: usize, after: u8)
         ensures { Prints self.old self.new (field v after) }
     {

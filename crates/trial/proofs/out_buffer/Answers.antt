@@ -1,4 +1,5 @@
 -- `trial::out_buffer` is safe and ends and meets its contract. Assumes nothing.
+-- By hand: without this law the check runs out of stack.
 use mathlib.Core.Path.{sym}
 use Prim.Native.Nat.{ℕ}
 use lib.ListN.{length-replicate}
