@@ -50,17 +50,14 @@ impl Call {
     }
 }
 
-// A shape and its rate.
-pub(crate) fn shape_of(words: &mut Words) -> Option<Shape> {
-    Some(Shape {
-        channels: words.decimal()?,
-        frames: words.decimal()?,
-        rate: words.f32()?,
-    })
-}
-
 impl ChannelCopy {
-    pub(crate) fn read(words: &mut Words) -> Option<ChannelCopy> {
+    ghost use Rattle.protocol.specs.Words.{left, Gives};
+    ghost use Rattle.protocol.specs.Orders.{copy, copied};
+
+    #[tactic(auto, unfolding(crate::specs::Orders::copy))]
+    pub(crate) fn read(words: &mut Words) -> Option<ChannelCopy>
+        ensures { Gives copied result (left words.new) (copy (left words.old)) }
+    {
         let shape = Shape {
             channels: words.decimal()?,
             frames: words.decimal()?,

@@ -1,10 +1,10 @@
 // A line as an order: what it asks for, with its values.
-ghost use Rattle.std.specs.Prelude.{◌≤◌};
+ghost use Rattle.std.specs.Prelude.{◌≤◌, IfSome};
 ghost use Rattle.std.specs.Option.{ForSome};
 ghost use Rattle.protocol.specs.declared.calls.TheConstants.{ROOM};
 ghost use Rattle.protocol.specs.declared.orders.TheConstants.{OUTPUT_MAX};
 
-use super::calls::{Call, ChannelCopy, ROOM, shape_of};
+use super::calls::{Call, ChannelCopy, ROOM};
 use super::words::Words;
 use player::ControlMessage;
 
@@ -44,66 +44,110 @@ pub enum Order {
 }
 
 impl Speed {
-    fn factor(words: &mut Words) -> Option<Speed> {
+    ghost use Rattle.protocol.specs.Words.{left, Gives};
+    ghost use Rattle.protocol.specs.Orders.{factor, cents};
+
+    fn factor(words: &mut Words) -> Option<Speed>
+        ensures { Gives (λ x. x) result (left words.new) (factor (left words.old)) }
+    {
         Some(Speed::Factor(words.f64()?))
     }
 
-    fn cents(words: &mut Words) -> Option<Speed> {
+    fn cents(words: &mut Words) -> Option<Speed>
+        ensures { Gives (λ x. x) result (left words.new) (cents (left words.old)) }
+    {
         Some(Speed::Cents(words.i32()?))
     }
 }
 
 impl Request {
+    ghost use Rattle.protocol.specs.declared.orders.Speed.{Speed};
+    ghost use Rattle.protocol.specs.Words.{left, Gives, Reads};
+    ghost use Rattle.protocol.specs.Orders.{asked, output, samples, request};
+
+    // The length of the output, where the line names one.
+    #[tactic(auto, unfolding(crate::specs::Orders::output))]
+    fn output(words: &mut Words) -> Option<usize>
+        ensures within { IfSome result (λ n. n ≤ OUTPUT_MAX) }
+        ensures read { Gives (λ n. n) result (left words.new) (output (left words.old)) }
+    {
+        if words.is_empty() {
+            Some(OUTPUT)
+        } else {
+            words.up_to(OUTPUT_MAX)
+        }
+    }
+
+    // And that of the samples.
+    #[tactic(auto, unfolding(crate::specs::Orders::samples))]
+    fn samples(words: &mut Words) -> Option<Option<usize>>
+        ensures within { IfSome result (λ samples. ForSome samples (λ n. n ≤ ROOM)) }
+        ensures read { Gives (λ n. n) result (left words.new) (samples (left words.old)) }
+    {
+        if words.is_empty() {
+            return Some(None);
+        }
+        Some(Some(words.up_to(ROOM)?))
+    }
+
+    // Its third word is read as `speed` says.
+    #[tactic(auto, unfolding(crate::specs::Orders::request))]
     fn read<F: FnOnce(&mut Words) -> Option<Speed>>(words: &mut Words, speed: F) -> Option<Request>
         requires { F.IsAlwaysCallable speed }
+        ensures { (read_speed : Reads Speed)
+            → ((given : _) (answer : _) (after : _) → F.post speed given answer after → Gives (λ x. x) answer (left after.now) (read_speed (left given.now)))
+            → Gives asked result (left words.new) (request read_speed (left words.old)) }
     {
-        let time = words.f64()?;
-        let rate = words.f32()?;
-        let speed = speed(words)?;
-        let output = if words.is_empty() {
-            OUTPUT
-        } else {
-            words.up_to(OUTPUT_MAX)?
-        };
-        let samples = if words.is_empty() {
-            None
-        } else {
-            Some(words.up_to(ROOM)?)
-        };
         Some(Request {
-            time,
-            rate,
-            speed,
-            output,
-            samples,
+            time: words.f64()?,
+            rate: words.f32()?,
+            speed: speed(words)?,
+            output: Request::output(words)?,
+            samples: Request::samples(words)?,
         })
     }
 }
 
 impl Order {
-    // The order that a line is; none where it is of no other form.
-    pub fn read(line: &[u8]) -> Option<Order> {
-        let mut words = Words::of(line);
-        let order = match words.word()? {
+    ghost use Rattle.std.specs.Prelude.{◌≡◌, option_map};
+    ghost use Rattle.protocol.specs.Words.{words, left, Gives};
+    ghost use Rattle.protocol.specs.Orders.{line_of, named, order};
+
+    // The order of a name, and of the words behind it.
+    #[tactic(auto, unfolding(crate::specs::Orders::named))]
+    fn named(name: &[u8], words: &mut Words) -> Option<Order>
+        ensures { Gives line_of result (left words.new) (named name.now (left words.old)) }
+    {
+        Some(match name {
             b"R" => Order::Rate(words.f32()?),
             b"S" => Order::Message(ControlMessage::Start(words.f64()?, words.f64()?, words.f64()?)),
             b"T" => Order::Message(ControlMessage::Stop(words.f64()?)),
             b"P" => Order::Message(ControlMessage::LoopStart(words.f64()?)),
             b"E" => Order::Message(ControlMessage::LoopEnd(words.f64()?)),
             b"L" => Order::Message(ControlMessage::Loop(words.flag()?)),
-            b"B" => Order::Block(Request::read(&mut words, Speed::factor)?),
-            b"D" => Order::Block(Request::read(&mut words, Speed::cents)?),
-            b"M" => Order::Preview(Request::read(&mut words, Speed::factor)?),
-            b"N" => Order::Preview(Request::read(&mut words, Speed::cents)?),
+            b"B" => Order::Block(Request::read(words, Speed::factor)?),
+            b"D" => Order::Block(Request::read(words, Speed::cents)?),
+            b"M" => Order::Preview(Request::read(words, Speed::factor)?),
+            b"N" => Order::Preview(Request::read(words, Speed::cents)?),
             b"Z" => Order::Show,
-            b"C" => Order::Call(Call::Clip(shape_of(&mut words)?)),
-            b"KF" => Order::Call(Call::CopyFrom(ChannelCopy::read(&mut words)?)),
-            b"KT" => Order::Call(Call::CopyTo(ChannelCopy::read(&mut words)?)),
-            b"J" => Order::Call(Call::Extend(shape_of(&mut words)?, shape_of(&mut words)?)),
-            b"V" => Order::Call(Call::Split(shape_of(&mut words)?, words.decimal()?)),
-            b"Q" => Order::Call(Call::Convert(shape_of(&mut words)?, words.f32()?)),
+            b"C" => Order::Call(Call::Clip(words.shape()?)),
+            b"KF" => Order::Call(Call::CopyFrom(ChannelCopy::read(words)?)),
+            b"KT" => Order::Call(Call::CopyTo(ChannelCopy::read(words)?)),
+            b"J" => Order::Call(Call::Extend(words.shape()?, words.shape()?)),
+            b"V" => Order::Call(Call::Split(words.shape()?, words.decimal()?)),
+            b"Q" => Order::Call(Call::Convert(words.shape()?, words.f32()?)),
             _ => return None,
-        };
+        })
+    }
+
+    // The order that a line is; none where it is of no other form.
+    #[tactic(auto, unfolding(crate::specs::Orders::order))]
+    pub fn read(line: &[u8]) -> Option<Order>
+        ensures { option_map line_of result ≡ order (words line.now) }
+    {
+        let mut words = Words::of(line);
+        let name = words.word()?;
+        let order = Order::named(name, &mut words)?;
         words.is_empty().then_some(order)
     }
 }

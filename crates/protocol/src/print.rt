@@ -1,5 +1,6 @@
-// What is printed, line by line.
-use buffer::Shape;
+// What is printed, line by line. The five functions that print have no clause: std's `Print` states
+// nothing of what its `write_all` and `println` write.
+use buffer::{Refusal, Shape};
 use rounding::BinaryFloat;
 use std::{fmt, io};
 
@@ -20,22 +21,19 @@ pub fn put_line(rt: &impl Print, line: &[u8]) -> io::Result<()> {
     rt.write_all(b"\n")
 }
 
-// A refusal.
-pub fn put_refusal(rt: &impl Print, number: u32) -> io::Result<()> {
+// A refusal's number; 0 for a line of no order, which has no row in the table.
+pub fn put_refusal(rt: &impl Print, refusal: Option<Refusal>) -> io::Result<()> {
+    let number = refusal.map_or(0, Refusal::number);
     println!(rt; "X {number}")
 }
 
-// Each longest run of equal words of a channel.
+// Each longest run of equal words of a channel. That `+=` fits would take an invariant of the loop, which
+// the check refuses beside a generic `Print`: "expected RattleType, but this has type Lfts 4".
 pub fn put_channel(rt: &impl Print, channel: usize, words: &[u32]) -> io::Result<()> {
-    let mut rest = words;
-    while let Some((bits, after)) = rest.split_first() {
-        let first = words.len() - rest.len();
-        let more = after
-            .iter()
-            .position(|word| word != bits)
-            .unwrap_or(after.len());
-        println!(rt; "{channel} {first} {} {bits:08X}", more + 1)?;
-        rest = &after[more..];
+    let mut first = 0usize;
+    for run in words.chunk_by(|a, b| a == b) {
+        println!(rt; "{channel} {first} {} {:08X}", run.len(), run[0])?;
+        first = first.saturating_add(run.len());
     }
     Ok(())
 }

@@ -1,6 +1,5 @@
 // A call that waits for its words.
-ghost use Rattle.std.specs.Prelude.{◌≡◌, ◌<◌, ◌≤◌, ◌↔◌, length, IfOk, IfSome, IsTrue};
-ghost use Rattle.std.specs.Bool.{OnFalse, OnTrue};
+ghost use Rattle.std.specs.Prelude.{◌≡◌, ◌+◌, ◌<◌, ◌≤◌, ◌↔◌, length, IfOk, IfSome, IfNone, IsTrue};
 ghost use Rattle.protocol.specs.declared.calls.TheConstants.{ROOM};
 
 use super::calls::{Call, ROOM};
@@ -67,19 +66,15 @@ impl Waiting {
         self.got == self.wanted
     }
 
-    // Takes the words of a `W` line into their places. It takes none, and answers false, where the line
-    // is none or has more words than are missing.
-    pub fn take(&mut self, line: &[u8], room: &mut [u32; ROOM]) -> bool
+    // Takes the words of a `W` line into their places, and answers how many; none where the line is no
+    // such line or has more words than are missing.
+    pub fn take(&mut self, line: &[u8], room: &mut [u32; ROOM]) -> Option<usize>
         ensures same { (self.new.call ≡ self.old.call) × (self.new.wanted ≡ self.old.wanted) }
-        ensures taken { OnTrue result (self.old.got < self.new.got) }
-        ensures none { OnFalse result (self.new.got ≡ self.old.got) }
+        ensures taken { IfSome result (λ n. (0 < n) × (self.new.got ≡ self.old.got + n)) }
+        ensures none { IfNone result (self.new.got ≡ self.old.got) }
     {
-        match stored(line, &mut room[self.got..self.wanted]) {
-            Some(count) => {
-                self.got += count;
-                true
-            }
-            None => false,
-        }
+        let count = stored(line, &mut room[self.got..self.wanted])?;
+        self.got += count;
+        Some(count)
     }
 }

@@ -1,28 +1,43 @@
 // The words of a line, one after another.
-ghost use Rattle.std.specs.Prelude.{◌≤◌, IfSome};
 
 use super::numbers::{bits32, bits64, decimal};
+use buffer::Shape;
 use rounding::BinaryFloat;
 
 // What is left of a line: its words, parted by exactly one space; nothing behind the last one. Std's
-// `split` has a closure in its type, which each reader of an order would have to name as a parameter.
+// `split` has a closure in its type, which each reader would have to name, and can't be asked whether a
+// word is left without taking it, which an order's end and the lengths that a block may name want.
 #[derive(Clone, Copy)]
 pub(crate) struct Words<'a> {
     rest: Option<&'a [u8]>,
 }
 
 impl<'a> Words<'a> {
-    pub fn of(line: &'a [u8]) -> Words<'a> {
+    ghost use Rattle.std.specs.Prelude.{◌≡◌, ◌≤◌, length, eqb, IfSome, Some};
+    ghost use Rattle.protocol.specs.Numbers.{decimal, decimal_up_to, hex, f32_word, f64_word, i32_word, flag_word};
+    ghost use Rattle.protocol.specs.Words.{words, left, Gives, Takes};
+    ghost use Rattle.protocol.specs.Orders.{shape};
+
+    #[tactic(auto, unfolding(crate::specs::Words::words_of_rest))]
+    pub fn of(line: &'a [u8]) -> Words<'a>
+        ensures { left result ≡ words line.now }
+    {
         Words { rest: Some(line) }
     }
 
     // Whether no word is left.
-    pub fn is_empty(&self) -> bool {
+    #[tactic(auto, using(crate::proofs::Cuts::some_word), unfolding(crate::specs::Words::words_of_rest))]
+    pub fn is_empty(&self) -> bool
+        ensures { result ≡ eqb (length (left self.now)) 0 }
+    {
         self.rest.is_none()
     }
 
     // The next word.
-    pub fn word(&mut self) -> Option<&'a [u8]> {
+    #[tactic(auto, unfolding(crate::specs::Words::words_of_rest, crate::specs::Words::behind, crate::specs::Words::one))]
+    pub fn word(&mut self) -> Option<&'a [u8]>
+        ensures { Takes (λ w. w.now) Some self.old result self.new }
+    {
         let rest = self.rest?;
         match rest.iter().position(|b| *b == b' ') {
             Some(end) => {
@@ -36,38 +51,77 @@ impl<'a> Words<'a> {
         }
     }
 
-    pub fn decimal(&mut self) -> Option<usize> {
+    #[tactic(auto, using(crate::proofs::Cuts::one_more, crate::proofs::Cuts::no_more, crate::proofs::Tests::decimal_read))]
+    pub fn decimal(&mut self) -> Option<usize>
+        ensures { Takes (λ x. x) decimal self.old result self.new }
+    {
         decimal(self.word()?)
     }
 
     // A decimal number up to a bound.
+    #[tactic(auto, unfolding(crate::specs::Words::one, crate::specs::Numbers::decimal_up_to))]
     pub fn up_to(&mut self, most: usize) -> Option<usize>
-        ensures { IfSome result (λ n. n ≤ most) }
+        ensures within { IfSome result (λ n. n ≤ most) }
+        ensures read { Takes (λ x. x) (decimal_up_to most) self.old result self.new }
     {
         self.decimal().filter(|n| *n <= most)
     }
 
-    pub fn bits32(&mut self) -> Option<u32> {
+    #[tactic(auto, using(crate::proofs::Cuts::one_more, crate::proofs::Cuts::no_more, crate::proofs::Tests::hex_read))]
+    pub fn bits32(&mut self) -> Option<u32>
+        ensures { Takes (λ x. x) (hex 8) self.old result self.new }
+    {
         bits32(self.word()?)
     }
 
-    pub fn i32(&mut self) -> Option<i32> {
+    #[tactic(auto, using(crate::proofs::Cuts::one_more, crate::proofs::Cuts::no_more, crate::proofs::Tests::hex_read))]
+    pub fn bits64(&mut self) -> Option<u64>
+        ensures { Takes (λ x. x) (hex 16) self.old result self.new }
+    {
+        bits64(self.word()?)
+    }
+
+    #[tactic(auto, unfolding(crate::specs::Words::one, crate::specs::Numbers::i32_word))]
+    pub fn i32(&mut self) -> Option<i32>
+        ensures { Takes (λ x. x) i32_word self.old result self.new }
+    {
         let bits = self.bits32()?;
         Some(bits.cast_signed())
     }
 
-    pub fn f32(&mut self) -> Option<f32> {
+    #[tactic(auto, unfolding(crate::specs::Words::one, crate::specs::Numbers::f32_word))]
+    pub fn f32(&mut self) -> Option<f32>
+        ensures { Takes (λ x. x) f32_word self.old result self.new }
+    {
         let bits = self.bits32()?;
         Some(f32::from_pattern(bits))
     }
 
-    pub fn f64(&mut self) -> Option<f64> {
-        let bits = bits64(self.word()?)?;
+    #[tactic(auto, unfolding(crate::specs::Words::one, crate::specs::Numbers::f64_word))]
+    pub fn f64(&mut self) -> Option<f64>
+        ensures { Takes (λ x. x) f64_word self.old result self.new }
+    {
+        let bits = self.bits64()?;
         Some(f64::from_pattern(bits))
     }
 
+    // A shape and its rate.
+    #[tactic(auto, unfolding(crate::specs::Orders::shape))]
+    pub fn shape(&mut self) -> Option<Shape>
+        ensures { Gives (λ s. s) result (left self.new) (shape (left self.old)) }
+    {
+        Some(Shape {
+            channels: self.decimal()?,
+            frames: self.decimal()?,
+            rate: self.f32()?,
+        })
+    }
+
     // `0` or `1`.
-    pub fn flag(&mut self) -> Option<bool> {
+    #[tactic(auto, unfolding(crate::specs::Words::one, crate::specs::Numbers::flag_word))]
+    pub fn flag(&mut self) -> Option<bool>
+        ensures { Takes (λ x. x) flag_word self.old result self.new }
+    {
         match self.word()? {
             b"0" => Some(false),
             b"1" => Some(true),

@@ -21,7 +21,7 @@ fn lent(shape: Shape, room: &mut [u32; ROOM]) -> Result<&mut [u32], Failure> {
 }
 
 // A copy out of a channel.
-pub fn copy_from(
+pub(crate) fn copy_from(
     rt: &impl Print,
     copy: ChannelCopy,
     words: &[u32],
@@ -48,7 +48,7 @@ pub fn copy_from(
 
 // A copy into a channel. The words are those of the buffer, which stands in `out` then, and those of
 // the source.
-pub fn copy_to(
+pub(crate) fn copy_to(
     rt: &impl Print,
     copy: ChannelCopy,
     words: &[u32],
@@ -75,7 +75,7 @@ pub fn copy_to(
 }
 
 // A buffer joined to another.
-pub fn extend(
+pub(crate) fn extend(
     rt: &impl Print,
     first: Shape,
     second: Shape,
@@ -90,7 +90,7 @@ pub fn extend(
 }
 
 // A buffer converted to another rate.
-pub fn convert(
+pub(crate) fn convert(
     rt: &impl Print,
     shape: Shape,
     rate: f32,
@@ -104,7 +104,7 @@ pub fn convert(
 }
 
 // A buffer split in two. The rest has its own room.
-pub fn split(
+pub(crate) fn split(
     rt: &impl Print,
     shape: Shape,
     point: usize,

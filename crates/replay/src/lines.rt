@@ -17,7 +17,8 @@ struct Place {
     ghost within: { to ≤ 65536 },
 }
 
-// A piece of the input, a line of it, and whether it is the last piece.
+// A piece of the input, a line of it, and whether it is the last piece. Std's `BufRead` hands lines out
+// on the heap, of which there is none here.
 #[derive(Drop)]
 pub struct Lines {
     piece: [u8; PIECE],
@@ -26,7 +27,8 @@ pub struct Lines {
 }
 
 // Reads until `bytes` is full or the input ends, and answers how many bytes it read: std's `read_exact`
-// doesn't say how much an input has that ends before.
+// doesn't say how much an input has that ends before. A failed read is returned here; trial, which has a
+// `read_full` of its own, goes on with what it read until then.
 fn read_full(input: &mut impl Read, bytes: &mut [u8]) -> io::Result<usize>
     ensures { IfOk result (λ n. n ≤ length bytes.old) }
 {
@@ -43,7 +45,7 @@ fn read_full(input: &mut impl Read, bytes: &mut [u8]) -> io::Result<usize>
 
 impl Lines {
     // Before the first line.
-    pub fn new() -> Lines {
+    pub(crate) fn new() -> Lines {
         Lines {
             piece: [0; PIECE],
             place: Place {
@@ -53,12 +55,6 @@ impl Lines {
             },
             is_last: false,
         }
-    }
-
-    // The line, without its end.
-    pub fn line(&self) -> &[u8] {
-        let Place { from, end, .. } = self.place;
-        &self.piece[from..end]
     }
 
     // Moves what is left from `from` on to the front, and reads behind it.
@@ -90,15 +86,15 @@ impl Lines {
         length.is_some()
     }
 
-    // Goes on to the next line; false where the input has ended.
-    pub fn advance(&mut self, input: &mut impl Read) -> io::Result<bool> {
+    // The next line, without its end; none where the input has ended.
+    pub(crate) fn advance(&mut self, input: &mut impl Read) -> io::Result<Option<&[u8]>> {
         let Place { end, to, .. } = self.place;
         let from = to.min(end + 1);
         if !self.end_line(from) && !self.is_last {
             self.refill(input, from)?;
             self.end_line(0);
         }
-        let Place { from, to, .. } = self.place;
-        Ok(from < to)
+        let Place { from, end, to } = self.place;
+        Ok((from < to).then_some(&self.piece[from..end]))
     }
 }

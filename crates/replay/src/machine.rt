@@ -21,7 +21,8 @@ pub struct Memory<'a> {
     pub out: &'a mut [u32; ROOM],
 }
 
-// A player and the words of its clip.
+// A player, and how many words its clip has, at the front of the memory for it. No slice of them: it
+// would hold that memory when the next clip is written there.
 #[derive(Clone, Copy)]
 struct Loaded {
     player: Player,
@@ -37,7 +38,7 @@ pub struct Machine {
 }
 
 impl Machine {
-    pub fn new() -> Machine {
+    pub(crate) fn new() -> Machine {
         Machine {
             loaded: None,
             waiting: None,
@@ -45,11 +46,11 @@ impl Machine {
     }
 
     // Obeys a line, or prints why not.
-    pub fn hear(&mut self, rt: &impl Print, line: &[u8], memory: Memory) -> io::Result<()> {
+    pub(crate) fn hear(&mut self, rt: &impl Print, line: &[u8], memory: Memory) -> io::Result<()> {
         match self.obey(rt, line, memory) {
             Ok(()) => Ok(()),
-            Err(Failure::Unknown) => put_refusal(rt, 0),
-            Err(Failure::Refused(refusal)) => put_refusal(rt, refusal.number()),
+            Err(Failure::Unknown) => put_refusal(rt, None),
+            Err(Failure::Refused(refusal)) => put_refusal(rt, Some(refusal)),
             Err(Failure::Output(error)) => Err(error),
         }
     }
@@ -58,10 +59,10 @@ impl Machine {
     fn obey(&mut self, rt: &impl Print, line: &[u8], memory: Memory) -> Result<(), Failure> {
         let Memory { clip, words, out } = memory;
         if let Some(mut waiting) = self.waiting.take() {
-            if waiting.take(line, words) {
+            if waiting.take(line, words).is_some() {
                 return self.wait(rt, waiting, Memory { clip, words, out });
             }
-            put_refusal(rt, 0)?;
+            put_refusal(rt, None)?;
         }
         if line.starts_with(b"#") {
             return Ok(put_line(rt, line)?);

@@ -24,15 +24,15 @@ fn main(rt: HostRuntime) -> io::Result<()> {
     let mut out = [0; ROOM];
     // Nothing says that the input ends, so the loop counts its turns.
     for _ in 0..u64::MAX {
-        if !lines.advance(&mut input)? {
+        let Some(line) = lines.advance(&mut input)? else {
             break;
-        }
+        };
         let memory = Memory {
             clip: &mut clip,
             words: &mut words,
             out: &mut out,
         };
-        machine.hear(&rt, lines.line(), memory)?;
+        machine.hear(&rt, line, memory)?;
     }
     Ok(())
 }

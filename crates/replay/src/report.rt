@@ -7,7 +7,12 @@ use std::io;
 const BLOCK_FRAMES: usize = 128;
 
 // A letter, what a block answers or would answer, and its output.
-pub fn put_block(rt: &impl Print, letter: char, block: Coming, out: &[u32]) -> io::Result<()> {
+pub(crate) fn put_block(
+    rt: &impl Print,
+    letter: char,
+    block: Coming,
+    out: &[u32],
+) -> io::Result<()> {
     let keep_alive = u8::from(block.keep_alive);
     let ended = u8::from(block.ended);
     let channels = block.channels;
@@ -29,7 +34,7 @@ fn put_messages(rt: &impl Print, p: Player) -> io::Result<()> {
 }
 
 // The player's line.
-pub fn put_player(rt: &impl Print, p: Player) -> io::Result<()> {
+pub(crate) fn put_player(rt: &impl Print, p: Player) -> io::Result<()> {
     put_messages(rt, p)?;
     let state = p.render_state;
     let position = Bits(state.buffer_time.0);
