@@ -38,6 +38,7 @@ pub fn put_channel(rt: &impl Print, channel: usize, words: &[u32]) -> io::Result
     Ok(())
 }
 
+// `text` has such lines of its own: each byte is promised there, into a lent slice, and printed here.
 // The runs of `count` channels of `frames` words, one channel after another.
 pub fn put_channels(rt: &impl Print, count: usize, frames: usize, words: &[u32]) -> io::Result<()> {
     if frames == 0 {

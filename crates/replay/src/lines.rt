@@ -74,7 +74,8 @@ impl Lines {
         Ok(())
     }
 
-    // Ends the line that begins at `from`; false where its end isn't there.
+    // Ends the line that begins at `from`, and answers whether its end is there; where it isn't, the
+    // line is all that was read, so a place stands either way.
     fn end_line(&mut self, from: usize) -> bool
         requires { from ≤ self.old.place.to }
         ensures { self.new.place.to ≡ self.old.place.to }

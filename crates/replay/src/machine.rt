@@ -135,7 +135,8 @@ impl Machine {
         Ok(put_block(rt, 'B', Coming::from(block), out)?)
     }
 
-    // A preview leaves the player as it was. Its output stands behind the blocks'.
+    // A preview leaves the player as it was. Its output stands behind the blocks', so it is no block call
+    // with another letter.
     fn preview(
         &self,
         rt: &impl Print,
