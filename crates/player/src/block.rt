@@ -157,7 +157,7 @@ impl Player {
     {
         let turns = self.turns_over();
         let first = self.first_of();
-        // Without `move` an aligned block of one channel took 3 to 5 ns longer.
+        // Without `move` an aligned block of one channel took up to 2 ns longer.
         write_channels(out, channels, move |part, channel| {
             aligned::write_channel(part, channel, turns, first)
         });
