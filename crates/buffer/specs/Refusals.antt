@@ -14,8 +14,7 @@ number refused.Channel = 3
 number refused.Unlike = 4
 -- split: point above the frame count
 number refused.Point = 5
--- convert by a real change: result of one frame
-number refused.Single = 6
+-- 6, convert by a real change: result of one frame, is retired: such a result is defined now (document 02, 2.4)
 -- extend, convert: result over the limit of frames
 number refused.Long = 7
 -- out slices: not exactly the result's length

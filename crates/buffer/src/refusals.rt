@@ -1,7 +1,7 @@
 // The refusals of document 01's table, each with its number.
 use std::fmt;
 
-// Why a call is turned down. The number of each is its row's in the table.
+// Why a call is turned down. The number of each is its row's in the table; no call gives 6 any more.
 #[derive(Clone, Copy, Debug, PartialEq, Eq)]
 pub enum Refusal {
     Shape = 1,
@@ -9,7 +9,6 @@ pub enum Refusal {
     Channel = 3,
     Unlike = 4,
     Point = 5,
-    Single = 6,
     Long = 7,
     Length = 8,
     Value = 9,

@@ -1,7 +1,7 @@
--- Conversion to another rate (document 01, 'Extend, split, convert'; `resample` in the Rust), each step rounded.
+-- Conversion to another rate (document 01, 'Extend, split, convert', and where a frame is read document 02, 2.4), each step rounded.
 use Rattle.std.specs.Prelude.{ℕ, ◌+◌, ◌-◌, min, Bool, cond, not, ◌||◌, List, length, pos, ◌==◌, from_bits, nat_lt, slice_index, to_bits, Float}
 use Rattle.std.specs.Float.{binary32, binary64}
-use Rattle.std.specs.Float.Ieee.{of_int, add, sub, mul, div}
+use Rattle.std.specs.Float.Ieee.{of_int, add, sub, mul, div, lt}
 use Rattle.rounding.specs.Rounding.{whole, floor, ceil, truncate, convert}
 use Rattle.rounding.specs.Near.{float_eq, rate_tolerance}
 use Rattle.lists.specs.Rows.{rows}
@@ -21,7 +21,7 @@ relabels shape rate = float_eq shape.rate rate rate_tolerance || shape.frames ==
 unfoldable pub converted_length : Shape → Float → ℕ
 converted_length shape rate = truncate (ceil binary64 (mul binary64 (whole shape.frames) (div binary64 rate shape.rate)))
 
--- rows 1 and 2 for a buffer of `len` samples and a new rate; then a relabelled shape, or rows 7 and 6 and the result's shape
+-- rows 1 and 2 for a buffer of `len` samples and a new rate; then a relabelled shape, or row 7 and the result's shape
 unfoldable pub converted_shape : Shape → ℕ → Float → Result Shape Refusal
 converted_shape shape len rate =
     cond (not (valid_shape shape.channels shape.frames len)) (Err refused.Shape)
@@ -29,12 +29,11 @@ converted_shape shape len rate =
     (cond (not (valid_rate rate)) (Err refused.Rate)
     (cond (relabels shape rate) (Ok (record { channels = shape.channels; frames = shape.frames; rate = rate }))
     (cond (nat_lt max_frames (converted_length shape rate)) (Err refused.Long)
-    (cond (converted_length shape rate == 1) (Err refused.Single)
-    (Ok (record { channels = shape.channels; frames = converted_length shape rate; rate = rate })))))))
+    (Ok (record { channels = shape.channels; frames = converted_length shape rate; rate = rate }))))))
 
--- 'frame i read at i/(M − 1) × (N − 1) in f64'
-unfoldable pub playhead : ℕ → ℕ → ℕ → Float
-playhead n m i = mul binary64 (div binary64 (whole i) (whole (m - 1))) (whole (n - 1))
+-- 'frame i is read at i × source rate / target rate, worked in f64 with the product first'
+unfoldable pub playhead : Float → Float → ℕ → Float
+playhead source target i = div binary64 (mul binary64 (whole i) source) target
 
 -- the frame at or before the playhead
 unfoldable pub previous : Float → ℕ
@@ -51,19 +50,20 @@ mixed k frame next =
     (mul binary32 (sub binary32 (of_int binary32 (pos 1)) k) (from_bits binary32 frame))
     (mul binary32 k (from_bits binary32 next)))
 
--- frame i of M: 'the frame', and 'the next (or last)'
-unfoldable pub resampled : List ℕ → ℕ → ℕ → ℕ
-resampled frames m i =
-    mixed (fraction (playhead (length frames) m i))
-    (slice_index frames (previous (playhead (length frames) m i)))
-    (slice_index frames (min (previous (playhead (length frames) m i) + 1) (length frames - 1)))
+-- frame i of the result: 'a read at a position above N − 1 gives the last frame's bits, unweighted'; else it is mixed of 'the frame' and 'the next (or last)'
+unfoldable pub resampled : Float → Float → List ℕ → ℕ → ℕ
+resampled source target frames i =
+    let position = playhead source target i in
+    let last = length frames - 1 in
+    cond (lt (whole last) position) (slice_index frames last)
+    (mixed (fraction position) (slice_index frames (previous position)) (slice_index frames (min (previous position + 1) last)))
 
 -- every channel by itself
-abbrev pub resampled_channels : List ℕ → ℕ → ℕ → ℕ → List ℕ
-resampled_channels samples channels n m = rows channels (λ c. table m (resampled (channel samples n c) m))
+abbrev pub resampled_channels : Float → Float → List ℕ → ℕ → ℕ → ℕ → List ℕ
+resampled_channels source target samples channels n m = rows channels (λ c. table m (resampled source target (channel samples n c)))
 
 -- the samples of the result
 unfoldable pub converted_samples : Shape → List ℕ → Float → List ℕ
 converted_samples shape samples rate =
     cond (relabels shape rate) samples
-    (resampled_channels samples shape.channels shape.frames (converted_length shape rate))
+    (resampled_channels shape.rate rate samples shape.channels shape.frames (converted_length shape rate))
