@@ -3,4 +3,5 @@ pub mod Fitting
 pub mod Joining
 pub mod Parting
 pub mod Converting
+pub mod Places
 pub mod Known

@@ -9,6 +9,7 @@ mod joining;
 mod known;
 mod parting;
 mod parts;
+mod resampling;
 
 pub use converting::{convert, converted_shape};
 pub use joining::{extend, extended_shape};

@@ -13,8 +13,8 @@ pub returns : goal.returns
 returns c =
     let one = c.args.first in
     let two = c.args.second in
-    c.write_parts.ensures (λ k. channel one.samples.now one.frames k ++ channel two.samples.now two.frames k)
+    c.write_parts.ensures (λ k part. channel one.samples.now one.frames k ++ channel two.samples.now two.frames k)
     (λ part k after below long gave. search rules)
-    (even one.samples.now two.samples.now one.frames two.frames one.count
+    (λ k part below long. even one.samples.now two.samples.now one.frames two.frames one.count
     (one.valid.full ∙ mul_comm one.count one.frames)
-    (two.valid.full ∙ mul_comm two.count two.frames ∙ ap (λ n. two.frames * n) c.requires.alike))
+    (two.valid.full ∙ mul_comm two.count two.frames ∙ ap (λ n. two.frames * n) c.requires.alike) k below)
