@@ -20,3 +20,5 @@ pub mod Samples
 pub mod Unseen
 pub mod Instances
 pub mod Known
+pub mod Conversions
+pub mod Multiples

@@ -4,3 +4,4 @@ pub mod LongRun
 pub mod Longer
 pub mod Instances
 pub mod Known
+pub mod Conversions

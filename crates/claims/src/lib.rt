@@ -2,6 +2,7 @@
 // an empty body, so that the check names it.
 #![tactic(auto)]
 
+ghost use Rattle.claims.specs.Conversions.{KeepsTime};
 ghost use Rattle.claims.specs.Instances.{Instances};
 ghost use Rattle.claims.specs.Known.{KnownFrames};
 ghost use Rattle.claims.specs.LongRun.{LongRun};
@@ -31,6 +32,14 @@ pub fn previews()
 #[tactic(auto, using(crate::proofs::Instances::instances))]
 pub fn premises_are_met()
     ensures { Instances }
+{}
+
+// Conversion by a real change keeps time. Frame i of the result is read at i × source rate / target
+// rate, rounded once, so within 2^-28 frame. At m times the rate there are m times the frames, and
+// frame m × j has the value of the source's frame j, where that one and the next are finite.
+#[tactic(auto, using(crate::proofs::Multiples::keeps_time))]
+pub fn conversion_keeps_time()
+    ensures { KeepsTime }
 {}
 
 // Document 01's starred known frames. Those of rounding, of the fused step and of buffers are their

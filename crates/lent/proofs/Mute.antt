@@ -95,7 +95,6 @@ some refused.Rate = omega arith
 some refused.Channel = omega arith
 some refused.Unlike = omega arith
 some refused.Point = omega arith
-some refused.Single = omega arith
 some refused.Long = omega arith
 some refused.Length = omega arith
 some refused.Value = omega arith

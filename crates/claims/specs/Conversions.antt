@@ -1,0 +1,57 @@
+-- Document 02, 2.4: conversion by a real change keeps time, so that converted clips lie over the originals at the same instants. Definitions only.
+use Rattle.std.specs.Prelude.{◌≡◌, ℕ, ◌+◌, ◌-◌, ◌*◌, ◌^◌, ◌<◌, false, T, min, List, length, slice_index, pos, Float, Ok}
+use Rattle.std.specs.Float.{binary32}
+use Rattle.std.specs.Float.Ieee.{of_int, fits, eq}
+use Rattle.std.specs.Float.Ieee.Exact.{HasValue}
+use Rattle.std.specs.Float.Ieee.Scale.{finite}
+use Rattle.rounding.specs.Laws.{Within}
+use Rattle.rounding.specs.Rounding.{widen}
+use Rattle.buffer.specs.declared.Shape.{Shape}
+use Rattle.reshape.specs.Converting.{relabels, converted_shape, playhead, resampled}
+
+-- a conversion by a real change, from one f32 rate to another, that is accepted
+pub record Converts (shape : Shape) (len : ℕ) (rate : Float) (made : Shape) : Type 0 where
+  pub source_single : T (fits binary32 shape.rate)
+  pub target_single : T (fits binary32 rate)
+  pub accepted : converted_shape shape len rate ≡ Ok made
+  pub changes : relabels shape rate ≡ false
+
+-- Frame i of the result is read at the instant i / target: at i × source / target frames. The position is p times 2 ^ -1074, the rates are s and t times
+-- 2 ^ -149, the smallest f64 and the smallest f32.
+pub record SameInstant (source target : Float) (i : ℕ) : Type 0 where
+  pub p : ℕ
+  pub s : ℕ
+  pub t : ℕ
+  pub position : HasValue (playhead source target i) false p (2 ^ 1074)
+  pub source_rate : HasValue source false s (2 ^ 149)
+  pub target_rate : HasValue target false t (2 ^ 149)
+  -- the product is exact, and the quotient is rounded: the relative error is 2 ^ -53 at most
+  pub rounded : Within (i * s * 2 ^ 1074) (2 ^ 53 * (p * t)) (2 ^ 53 * (i * s * 2 ^ 1074))
+  -- and so the position is within 2 ^ -28 frame
+  pub frames : Within (2 ^ 1046 * t) (p * t) (i * s * 2 ^ 1074)
+
+-- To m times the rate: m times the frames, and frame m × j of a channel has the value of the source's frame j (a zero's sign may differ), where that frame
+-- and the next (or last) are finite.
+pub record KeepsFrames (shape : Shape) (rate : Float) (made : Shape) (m : ℕ) : Type 0 where
+  pub times : made.frames ≡ m * shape.frames
+  pub kept : (frames : List ℕ) (j : ℕ) → length frames ≡ shape.frames → j < shape.frames → T (finite (widen (slice_index frames j)))
+      → T (finite (widen (slice_index frames (min (j + 1) (shape.frames - 1)))))
+      → T (eq (widen (resampled shape.rate rate frames (m * j))) (widen (slice_index frames j)))
+
+-- a whole number as f32
+abbrev pub whole_rate : ℕ → Float
+whole_rate n = of_int binary32 (pos n)
+
+-- one channel
+abbrev pub mono : ℕ → ℕ → Shape
+mono frames rate = record { channels = 1; frames = frames; rate = whole_rate rate }
+
+-- ---- the claim
+pub record KeepsTime : Type 0 where
+  pub instants : (shape : Shape) (len : ℕ) (rate : Float) (made : Shape) → Converts shape len rate made → (i : ℕ) → i < made.frames
+      → SameInstant shape.rate rate i
+  pub multiples : (shape : Shape) (len : ℕ) (rate : Float) (made : Shape) → Converts shape len rate made → (s m : ℕ) → shape.rate ≡ whole_rate s
+      → rate ≡ whole_rate (m * s) → KeepsFrames shape rate made m
+  -- conversions that meet the premises: 2 frames at 24,000 make 4 at 48,000, and 3 at 48,000 make 2 at 32,000
+  pub up : Converts (mono 2 24000) 2 (whole_rate 48000) (mono 4 48000)
+  pub down : Converts (mono 3 48000) 3 (whole_rate 32000) (mono 2 32000)
