@@ -12,10 +12,10 @@ use Rattle.fused.specs.Tied.{Beside, Tied, Total, twice_rounded}
 use Rattle.rounding.proofs.Closest.{closest_near}
 use Rattle.rounding.proofs.Pattern.{pattern, closest_le}
 use Rattle.rounding.proofs.Read.{digits_lt, digits_full}
-use Rattle.rounding.proofs.Single.{pat, high}
+use Rattle.rounding.proofs.Single.{pat, high, whole_pattern}
 use Rattle.rounding.proofs.Sum.{mul_sub_r}
 use Rattle.fused.proofs.Twice.{Once, once_under, narrow_round, units_of, fused_once}
-use Rattle.fused.proofs.Untied.{digits_are, Parts, parts, whole_pattern}
+use Rattle.fused.proofs.Untied.{digits_are, Parts, parts}
 
 -- ---- a common unit
 -- U times m and c add up to X: so X is U times their sum

@@ -14,7 +14,8 @@ use Rattle.rounding.proofs.Closest.{compare_is, closest_near}
 use Rattle.rounding.proofs.Raised.{guard_clear, tie_raise, where_set}
 use Rattle.rounding.proofs.Read.{field_le}
 use Rattle.rounding.proofs.Sum.{Order, order, less, more, none}
-use Rattle.fused.proofs.Untied.{normal_digits, place_field, digits_are, place_is}
+use Rattle.fused.proofs.Untied.{normal_digits, digits_are, place_is}
+use Rattle.rounding.proofs.Single.{place_field}
 
 -- ---- ties
 -- half way between w and the next number

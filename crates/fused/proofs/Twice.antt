@@ -23,9 +23,9 @@ use Rattle.fused.proofs.Product.{fma_value}
 use Rattle.rounding.proofs.Read.{read, digits_lt, digits_full, convert_value}
 use Rattle.rounding.proofs.SignBit.{low_pattern, magnitude_fits, of_low}
 use Rattle.rounding.proofs.Signs.{value_neg, round_not, magnitude_value}
-use Rattle.rounding.proofs.Single.{pat}
+use Rattle.rounding.proofs.Single.{pat, whole_pattern}
 use Rattle.rounding.proofs.Sum.{sum_alike, sum_more, sum_less, sum_none, sum_same, Order, order, less, more, none}
-use Rattle.fused.proofs.Untied.{Parts, parts, not_negative, below_ones, whole_pattern, same_pattern}
+use Rattle.fused.proofs.Untied.{Parts, parts, not_negative, below_ones, same_pattern}
 
 -- ---- a finite result has finite operands
 finite_sum : (f : Format) (x y : Float) → finite (add f x y) ≡ true → (finite x ≡ true) × (finite y ≡ true)

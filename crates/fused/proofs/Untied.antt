@@ -9,7 +9,7 @@ use Rattle.rounding.specs.Laws.{Within}
 use Rattle.rounding.specs.Raise.{raise}
 use Rattle.fused.proofs.Bounds.{closest_is}
 use Rattle.rounding.proofs.Raised.{guard_clear, where_set}
-use Rattle.rounding.proofs.Single.{pat, high}
+use Rattle.rounding.proofs.Single.{pat, high, place_field}
 use Rattle.rounding.proofs.Sum.{Order, order, less, more, none}
 
 -- ---- the digits and the place of such a pattern
@@ -20,19 +20,6 @@ pub record Parts (b d k : ℕ) : Type 0 where
   pub low : 897 ≤ k
   pub high : k ≤ 1148
 
--- a pattern without a sign is its place and its digits
-pub whole_pattern : (b : ℕ) → b < 2 ^ 63 → place binary64 b * 2 ^ 52 + digits binary64 b ≡ b
-unfolding digits place
-whole_pattern b l = go (order (field binary64 b) 0)
-  where
-    go : Order (field binary64 b) 0 → (field binary64 b - 1) * 2 ^ 52 + cond (eqb (field binary64 b) 0) (b % 2 ^ 52) (2 ^ 52 + b % 2 ^ 52) ≡ b
-    go (less h) = absurd (omega arith)
-    go (more h) = rw (ne_eqb (field binary64 b) 0 (λ (e : field binary64 b ≡ 0). differ e h)) (omega arith)
-      where
-        differ : field binary64 b ≡ 0 → 0 < field binary64 b → ⊥
-        differ e h = omega arith
-    go (none e) = rw (eq-eqb (field binary64 b) 0 e) (omega arith)
-
 -- a pattern whose field is not 0
 pub normal_digits : (b : ℕ) → 0 < field binary64 b → digits binary64 b ≡ 2 ^ 52 + b % 2 ^ 52
 unfolding digits
@@ -40,10 +27,6 @@ normal_digits b l = rw (ne_eqb (field binary64 b) 0 (differ (field binary64 b) l
   where
     differ : (x : ℕ) → 0 < x → x ≡ 0 → ⊥
     differ x l e = omega arith
-
-pub place_field : (b : ℕ) → place binary64 b ≡ field binary64 b - 1
-unfolding place
-place_field b = refl
 
 -- a pattern in the f32's normal range
 module _ (b : ℕ) (least : 898 * 2 ^ 52 ≤ b) (most : b < 1150 * 2 ^ 52) where

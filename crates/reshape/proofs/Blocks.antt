@@ -1,12 +1,11 @@
 -- The frames of a result, block by block. Assumes nothing.
-use Rattle.std.specs.Prelude.{◌≡◌, T, length, take, drop, replicate, get_or, ◌^◌}
-use lib.Ieee.{Float, nan, binary32, of_bits}
+use Rattle.std.specs.Prelude.{◌≡◌, T, length, take, drop, ◌^◌}
+use lib.Ieee.{Float, nan}
 use Rattle.buffer.specs.Limits.{valid_rate}
 use Rattle.reshape.specs.Converting.{resampled, resampled_channels}
-use Rattle.reshape.specs.Places.{frame_of, fraction_of, read_at, at_places}
+use Rattle.reshape.specs.Places.{frame_of, fraction_of, at_places}
 use Rattle.reshape.proofs.Places.{read_is}
 use Rattle.std.proofs.Math.Path.{refl, sym, ap}
-use Rattle.std.proofs.lemmas.List.{length-replicate}
 use Rattle.std.proofs.Common.{◌∙◌, subst, mul-zero, append_assoc, append-nil, drop_of_length-le, arith, not-suc-le-zero, le_of_suc-le-suc, zero-add}
 use mathlib.Core.List.{List, [], ◌∷◌, ◌++◌}
 use Prim.Native.Nat.{ℕ, zero, suc, ◌+◌, ◌-◌, ◌*◌, ◌≤◌, ◌<◌}
@@ -59,24 +58,22 @@ rows_all size (suc c) out =
     next = omega (arith, mul-suc size c)
 
 -- a block of a channel's frames, read at the places that stand in the arrays, behind those that are stored
-pub block_read : (source target : Float) (frames init : List ℕ) (frame : List ℕ) (fraction : List Float) (last first n : ℕ) → length frames ≡ last + 1
-    → T (valid_rate source) → T (valid_rate target) → last < 16777216 → first + n < 2 ^ 32 → n ≤ 128 → first + n ≤ length init
-    → frame ≡ filled n (λ i. frame_of source target last (first + i)) (replicate 128 0)
-    → fraction ≡ filled n (λ i. fraction_of source target last (first + i)) (replicate 128 (of_bits binary32 0))
-    → put first n (table n (at_places frame fraction frames)) (filled first (resampled source target frames) init)
-    ≡ filled (first + n) (resampled source target frames) init
-block_read source target frames init frame fraction last first n full from to few small short fits f g =
-    let here : (i : ℕ) → i < n → read_at frames (get_or frame i 0) (get_or fraction i nan) ≡ resampled source target frames (first + i) =
+pub block_read : (source target : Float) (frames init frame frame_before : List ℕ) (fraction fraction_before : List Float) (last first n : ℕ) → length frames ≡ last + 1
+    → T (valid_rate source) → T (valid_rate target) → last < 16777216 → first + n < 2 ^ 32 → n ≤ length frame_before → n ≤ length fraction_before → first + n ≤ length init
+    → frame ≡ filled n (λ i. frame_of source target last (first + i)) frame_before
+    → fraction ≡ filled n (λ i. fraction_of source target last (first + i)) fraction_before
+    → put first n (table n (at_places frame fraction frames)) (filled first (resampled source target frames) init) ≡ filled (first + n) (resampled source target frames) init
+block_read source target frames init frame frame_before fraction fraction_before last first n full from to few small room room' fits f g =
+    let here : (i : ℕ) → i < n → at_places frame fraction frames i ≡ resampled source target frames (first + i) =
     λ i b.
     rw (
       f,
       g,
-      get_or_filled n (λ k. frame_of source target last (first + k)) (replicate 128 0) i 0 b (omega (arith, b, short, length-replicate {A = ℕ} 128 0)),
-      get_or_filled n (λ k. fraction_of source target last (first + k)) (replicate 128 (of_bits binary32 0)) i nan b (omega (arith, b, short, length-replicate {A = Float} 128 (of_bits binary32 0))),
+      get_or_filled n (λ k. frame_of source target last (first + k)) frame_before i 0 b (omega (arith, b, room)),
+      get_or_filled n (λ k. fraction_of source target last (first + k)) fraction_before i nan b (omega (arith, b, room')),
     )
     (read_is source target frames last (first + i) full from to few (omega (arith, b, small))) in
-    rw (table_same n (at_places frame fraction frames) (λ i. resampled source target frames (first + i)) here)
-    (filled_block first n (resampled source target frames) init fits)
+    rw (table_same n (at_places frame fraction frames) (λ i. resampled source target frames (first + i)) here) (filled_block first n (resampled source target frames) init fits)
 
 -- the first k frames of channel c are written into its part of the output
 abbrev pub row : Float → Float → List ℕ → List ℕ → ℕ → ℕ → ℕ → ℕ → List ℕ
@@ -95,17 +92,18 @@ module _ (source target : Float) (samples out : List ℕ) (count frames size las
   unfolding filled
   begun = sym (sym (append-nil (rows count (channel out size))) ∙ ap (λ (l : List ℕ). rows count (channel out size) ++ l) (sym (drop_of_length-le out {i = size * count} (omega (arith, whole)))) ∙ rows_all size count out)
 
-  pub more : (first n : ℕ) (frame : List ℕ) (fraction : List Float) (m : List ℕ) → n ≤ 128 → first + n ≤ size
-      → frame ≡ filled n (λ i. frame_of source target last (first + i)) (replicate 128 0)
-      → fraction ≡ filled n (λ i. fraction_of source target last (first + i)) (replicate 128 (of_bits binary32 0))
+  pub more : (first n : ℕ) (frame frame_before : List ℕ) (fraction fraction_before : List Float) (m : List ℕ) → n ≤ length frame_before → n ≤ length fraction_before → first + n ≤ size
+      → frame ≡ filled n (λ i. frame_of source target last (first + i)) frame_before
+      → fraction ≡ filled n (λ i. fraction_of source target last (first + i)) fraction_before
       → m ≡ rows count (written first)
       → rows count (λ c. put first n (table n (at_places frame fraction (channel samples frames c))) (channel m size c)) ≡ rows count (written (first + n))
-  more first n frame fraction m few_now within f g made =
+  more first n frame frame_before fraction fraction_before m room room' within f g made =
       rows_same count (λ c. put first n (table n (at_places frame fraction (channel samples frames c))) (channel m size c)) (written (first + n))
       (λ c below.
       rw (made, channel_rows size count (written first) (row_even first) c below)
-      (block_read source target (channel samples frames c) (channel out size c) frame fraction last first n (length_channel samples frames count c full below ∙ ends) from to few
-      (omega (arith, within, short)) few_now (omega (arith, within, length_channel out size count c whole below)) f g))
+      (block_read source target (channel samples frames c) (channel out size c) frame frame_before fraction fraction_before last first n
+      (length_channel samples frames count c full below ∙ ends) from to few
+      (omega (arith, within, short)) room room' (omega (arith, within, length_channel out size count c whole below)) f g))
 
   pub done : (m : List ℕ) → m ≡ rows count (written size) → m ≡ resampled_channels source target samples count frames size
   done m made =

@@ -1,7 +1,6 @@
 // The frames of a conversion by a real change. Where each is read is worked out once for all
 // channels, for a block of frames at a time.
-ghost use Rattle.std.specs.Prelude.{◌≡◌, ◌+◌, ◌*◌, ◌^◌, ◌<◌, ◌≤◌, T, length, replicate, from_bits};
-ghost use Rattle.std.specs.Float.{binary32};
+ghost use Rattle.std.specs.Prelude.{◌≡◌, ◌+◌, ◌*◌, ◌^◌, ◌<◌, ◌≤◌, T, length};
 ghost use Rattle.buffer.specs.Channels.{channel};
 ghost use Rattle.lists.specs.Parts.{put};
 ghost use Rattle.lists.specs.Rows.{rows};
@@ -15,7 +14,7 @@ use buffer::Channels;
 use rounding::BinaryFloat;
 
 // How many frames of a result are read at a time.
-const BLOCK: usize = 128;
+const BLOCK: usize = 64;
 
 // The rates of a conversion, both within the limits.
 #[derive(Clone, Copy)]
@@ -29,8 +28,8 @@ pub(crate) struct Rates {
 // place past the last frame has a frame past it.
 #[derive(Drop)]
 struct Places {
-    frame: [u32; 128],
-    fraction: [f32; 128],
+    frame: [u32; 64],
+    fraction: [f32; 64],
 }
 
 // The frame k of the way from one frame to the next.
@@ -92,29 +91,27 @@ impl Rates {
         let frame = rounding::truncate(position) as u32;
         (frame, rounding::narrow_f32(position - f64::from(frame)))
     }
-
-    // Where the `count` frames from `first` on are read.
-    #[tactic(auto, using(lists::specs::Table::filled_none, lists::specs::Table::filled_more))]
-    fn places(self, last: u32, first: u32, count: usize) -> Places
-        requires last { last < 16777216 }
-        requires fits { (first + count < 2 ^ 32) × (count ≤ 128) }
-        ensures { (result.frame ≡ filled count (λ i. frame_of self.source self.target last (first + i)) (replicate 128 0))
-            × (result.fraction ≡ filled count (λ i. fraction_of self.source self.target last (first + i)) (replicate 128 (from_bits binary32 0))) }
-    {
-        let mut frame = [0u32; 128];
-        let mut fraction = [0.0f32; 128];
-        for i in 0..count {
-            (frame[i], fraction[i]) = self.place(last, first + i as u32);
-        }
-        Places { frame, fraction }
-    }
 }
 
 impl Places {
+    // Finds where the `count` frames from `first` on are read.
+    #[tactic(auto, using(lists::specs::Table::filled_none, lists::specs::Table::filled_more))]
+    fn find(&mut self, rates: Rates, last: u32, first: u32, count: usize)
+        requires last { last < 16777216 }
+        requires fits { (first + count < 2 ^ 32) × (count ≤ 64) }
+        ensures room { (count ≤ length self.old.frame) × (count ≤ length self.old.fraction) }
+        ensures frames { self.new.frame ≡ filled count (λ i. frame_of rates.source rates.target last (first + i)) self.old.frame }
+        ensures fractions { self.new.fraction ≡ filled count (λ i. fraction_of rates.source rates.target last (first + i)) self.old.fraction }
+    {
+        for i in 0..count {
+            (self.frame[i], self.fraction[i]) = rates.place(last, first + i as u32);
+        }
+    }
+
     // A channel's frames at the places of the block.
     #[tactic(auto, using(lists::specs::Table::filled_none, lists::specs::Table::filled_more, lists::specs::Table::filled_end))]
     fn fill(&self, block: &mut [u32], channel: &[u32])
-        requires few { length block.old ≤ 128 }
+        requires few { length block.old ≤ 64 }
         requires some { 1 ≤ length channel.now }
         ensures { block.new ≡ table (length block.old) (at_places self.now.frame self.now.fraction channel.now) }
     {
@@ -126,7 +123,7 @@ impl Places {
     // The same in the place of the `count` frames from `first` on of a channel's part of the output.
     #[tactic(auto, unfolding(lists::specs::Parts::put))]
     fn write(&self, part: &mut [u32], channel: &[u32], first: usize, count: usize)
-        requires few { count ≤ 128 }
+        requires few { count ≤ 64 }
         requires within { first + count ≤ length part.old }
         requires some { 1 ≤ length channel.now }
         ensures { part.new ≡ put first count (table count (at_places self.now.frame self.now.fraction channel.now)) part.old }
@@ -143,7 +140,7 @@ impl Places {
         first: usize,
         count: usize,
     )
-        requires few { count ≤ 128 }
+        requires few { count ≤ 64 }
         requires within { first + count ≤ size }
         requires some { 1 ≤ channels.frames }
         requires fits { length out.old ≡ size * channels.count }
@@ -164,10 +161,14 @@ pub(crate) fn resample_channels(out: &mut [u32], channels: Channels, size: usize
     ensures { out.new ≡ resampled_channels rates.source rates.target channels.entry.samples.now channels.entry.count channels.entry.frames size }
 {
     let last = (channels.frames - 1) as u32;
+    let mut places = Places {
+        frame: [0; 64],
+        fraction: [0.0; 64],
+    };
     for block in 0..size.div_ceil(BLOCK) {
         let first = BLOCK * block;
         let count = BLOCK.min(size - first);
-        let places = rates.places(last, first as u32, count);
+        places.find(rates, last, first as u32, count);
         places.write_all(out, size, channels, first, count);
     }
 }

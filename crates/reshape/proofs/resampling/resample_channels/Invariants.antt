@@ -8,5 +8,5 @@ use Rattle.reshape.proofs.resampling.resample_channels.Given as goal
 
 abbrev pub invariant-loop-block : goal.invariant-loop-block
 invariant-loop-block l =
-    l.out ≡ rows l.channels.count (λ c. filled (min (128 * l.block) l.size) (resampled l.rates.source l.rates.target (channel l.channels.samples.now l.channels.frames c))
+    l.out ≡ rows l.channels.count (λ c. filled (min (64 * l.block) l.size) (resampled l.rates.source l.rates.target (channel l.channels.samples.now l.channels.frames c))
     (channel l.initial.out l.size c))
