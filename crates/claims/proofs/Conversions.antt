@@ -173,14 +173,15 @@ module _ (shape : Shape) (rate : Float) (R G : ℕ) (v : HasValue shape.rate fal
       reach n x.units y.units R G i u (lit≤ tt) N (close R G Q lo' hi) a b (lifted_lt y.units u i (lit< tt) c)
 
 -- ---- what an accepted conversion says of its numbers
-pub record Accepted (shape : Shape) (rate : Float) (made : Shape) : Type 0 where
+pub record Accepted (shape : Shape) (len : ℕ) (rate : Float) (made : Shape) : Type 0 where
+  pub full : len ≡ shape.channels * shape.frames
   pub short : shape.frames ≤ 16777216
   pub own : T (valid_rate shape.rate)
   pub new : T (valid_rate rate)
   pub few : converted_length shape rate ≤ 16777216
   pub length : made.frames ≡ converted_length shape rate
 
-pub accepted : (shape : Shape) (len : ℕ) (rate : Float) (made : Shape) → Converts shape len rate made → Accepted shape rate made
+pub accepted : (shape : Shape) (len : ℕ) (rate : Float) (made : Shape) → Converts shape len rate made → Accepted shape len rate made
 unfolding converted_shape
 accepted shape len rate made h =
     go (valid_shape shape.channels shape.frames len) (valid_rate shape.rate) (valid_rate rate) (relabels shape rate) (nat_lt max_frames (converted_length shape rate))
@@ -196,8 +197,9 @@ accepted shape len rate made h =
         (cond (not z) (Err refused.Rate)
         (cond r (Ok (record { channels = shape.channels; frames = shape.frames; rate = rate }))
         (cond l (Err refused.Long) (Ok (record { channels = shape.channels; frames = converted_length shape rate; rate = rate })))))) ≡ Ok made
-        → Accepted shape rate made
+        → Accepted shape len rate made
     go true true true false false a b c d e k = record {
+      full = (valid shape.channels shape.frames len a).full;
       short = (valid shape.channels shape.frames len a).short;
       own = subst T (sym b) tt;
       new = subst T (sym c) tt;

@@ -1,5 +1,5 @@
 -- Conversion to m times the rate: the position of frame m × j is j, and its frame is the source's in value. Assumes nothing.
-use Rattle.std.proofs.Common.{◌≡◌, ℕ, ◌+◌, ◌-◌, ◌*◌, ◌^◌, ◌<◌, ◌≤◌, min, Bool, true, false, cond, not, T, ◌⊎◌, inl, inr, List, length, slice_index, sym, refl, ap, ◌∙◌, subst, ap₂, le_trans, le_of_eq, le_of_lt, le_refl, eq-or-lt_of_le, mul-le-mul_right, mul-le-mul_left, mul-pos, mul-one, mul_comm, zero-mul, le_of_mul-le-mul_right, arith, lit<, lit≤, ℤ, pos, le-ltb}
+use Rattle.std.proofs.Common.{◌≡◌, ℕ, zero, suc, ◌+◌, ◌-◌, ◌*◌, ◌^◌, ◌<◌, ◌≤◌, min, Bool, true, false, cond, not, T, ◌⊎◌, inl, inr, List, length, slice_index, sym, refl, ap, ◌∙◌, subst, ap₂, le_trans, le_of_eq, le_of_lt, le_refl, eq-or-lt_of_le, mul-le-mul_right, mul-le-mul_left, mul-pos, mul-one, mul_comm, zero-mul, zero-lt-suc, lt_irrefl, mul-lt-mul_of_pos_right, le_of_mul-le-mul_right, arith, lit<, lit≤, ℤ, pos, le-ltb}
 use native.Mathlib.Nat.{one-mul}
 use Prim.Native.Nat.{zero-le}
 use mathlib.Core.Bool.{beq}
@@ -16,7 +16,7 @@ use Rattle.rounding.proofs.Exact.{whole_exact, round-zero, round_same_float, two
 use Rattle.rounding.proofs.Sum.{sum_alike, sum_more, sum_none}
 use Rattle.rounding.proofs.Counted.{floor_is, floor_count}
 use Rattle.rounding.proofs.Compare.{lt_at, eq_value}
-use Rattle.reshape.specs.Converting.{relabels, converted_length, converted_shape, playhead, previous, fraction, mixed, resampled}
+use Rattle.reshape.specs.Converting.{relabels, converted_length, converted_shape, playhead, previous, fraction, mixed, resampled, converted_samples}
 use Rattle.buffer.specs.declared.Shape.{Shape}
 use Rattle.buffer.specs.Limits.{valid_shape, valid_rate}
 use Rattle.rounding.specs.Near.{float_eq}
@@ -24,7 +24,10 @@ use Rattle.std.proofs.lemmas.Float.{le_trans as le_trans_float}
 use Rattle.claims.proofs.Order.{eq_refl}
 use Rattle.claims.proofs.Units.{rate_pos, rate_of}
 use Rattle.claims.proofs.Conversions.{playhead_is, accepted, ratio_is, up_count, instants}
-use Rattle.claims.specs.Conversions.{Converts, KeepsFrames, whole_rate, mono, KeepsTime}
+use Rattle.lists.specs.Rows.{rows}
+use Rattle.lists.specs.Table.{table, length_table, get_or_table}
+use Rattle.buffer.specs.Channels.{channel, length_channel, channel_rows}
+use Rattle.claims.specs.Conversions.{frame_at, Converts, KeepsFrames, whole_rate, mono, KeepsTime}
 
 -- ---- (1 - 0) × a + 0 × b is a in value: a zero of either sign is added to a
 abbrev nought : Bool → Float
@@ -213,8 +216,26 @@ counted n m rate shape e N M r =
     ∙ up_count (whole (n * m)) (n * m) 1 (lit< tt) (whole_exact binary64 (n * m) (times_fit n m N M)) (le_trans (le_of_eq (lifted_one (n * m))) (times_fit n m N M))
     ∙ lifted_one (n * m)
 
+some : (m s Q : ℕ) → 0 < m * s * Q → 0 < m
+some zero s Q h = absurd (lt_irrefl 0 (subst (λ (x : ℕ). 0 < x) (ap (λ (x : ℕ). x * Q) (zero-mul s) ∙ zero-mul Q) h))
+some (suc m) s Q h = zero-lt-suc m
+
+times_lt : (m j n : ℕ) → 0 < m → j < n → m * j < m * n
+times_lt m j n M l = omega (arith, mul-lt-mul_of_pos_right l M)
+
+-- a frame of the result is `resampled` of the channel
+result_frame : (shape : Shape) (rate : Float) (made : Shape) (samples : List ℕ) (c i : ℕ) → relabels shape rate ≡ false → made.frames ≡ converted_length shape rate
+    → c < shape.channels → i < made.frames
+    → frame_at (converted_samples shape samples rate) made.frames c i ≡ resampled shape.rate rate (channel samples shape.frames c) i
+unfolding converted_samples
+result_frame shape rate made samples c i changes long C I =
+    let f : ℕ → List ℕ = λ k. table (converted_length shape rate) (resampled shape.rate rate (channel samples shape.frames k)) in
+    ap₂ (λ (b : Bool) (n : ℕ). slice_index (channel (cond b samples (rows shape.channels f)) n c) i) changes long
+    ∙ ap (λ (l : List ℕ). slice_index l i) (channel_rows (converted_length shape rate) shape.channels f (λ k b. length_table (converted_length shape rate) (resampled shape.rate rate (channel samples shape.frames k))) c C)
+    ∙ get_or_table (converted_length shape rate) (resampled shape.rate rate (channel samples shape.frames c)) i 0 (subst (λ (x : ℕ). i < x) long I)
+
 module _ (shape : Shape) (len : ℕ) (rate : Float) (made : Shape) (h : Converts shape len rate made) (s m : ℕ) (own : shape.rate ≡ whole_rate s) (new : rate ≡ whole_rate (m * s)) where
-  multiple : KeepsFrames shape rate made m
+  multiple : KeepsFrames shape len rate made m
   multiple =
       let Q = 2 ^ 149 in
       let n = shape.frames in
@@ -231,16 +252,20 @@ module _ (shape : Shape) (len : ℕ) (rate : Float) (made : Shape) (h : Converts
       let ratio : div binary64 rate shape.rate ≡ whole m =
       ratio_is shape rate r.units g.units r.value g.value r.low r.high g.low g.high a.short
       ∙ round_same binary64 false g.units r.units m 1 R0 (lit< tt) (ratio_whole m s Q r.units g.units R G) ∙ whole_is m in
-      let c : converted_length shape rate ≡ n * m = counted n m rate shape refl a.short few ratio in
-      let t : made.frames ≡ m * n = a.length ∙ c ∙ mul_comm n m in
+      let len_is : converted_length shape rate ≡ n * m = counted n m rate shape refl a.short few ratio in
+      let t : made.frames ≡ m * n = a.length ∙ len_is ∙ mul_comm n m in
       record {
         times = t;
-        kept = λ frames j l J f k.
-            kept_frame shape.rate rate frames (m * j) j
-            (playhead_is shape.rate rate r.units g.units (m * j) h.source_single r.value g.value r.high G0 (reach m j n (converted_length shape rate) c (le_of_lt J) a.few)
+        kept = λ samples c j l C J f k.
+            let whole : length samples ≡ shape.frames * shape.channels = l ∙ a.full ∙ mul_comm shape.channels n in
+            let long : length (channel samples n c) ≡ n = length_channel samples n shape.channels c whole C in
+            subst (λ (x : ℕ). T (eq (widen x) (widen (frame_at samples n c j))))
+            (sym (result_frame shape rate made samples c (m * j) h.changes a.length C (subst (λ (x : ℕ). m * j < x) (sym t) (times_lt m j n (some m s Q (subst (λ (x : ℕ). 0 < x) G G0)) J))))
+            (kept_frame shape.rate rate (channel samples n c) (m * j) j
+            (playhead_is shape.rate rate r.units g.units (m * j) h.source_single r.value g.value r.high G0 (reach m j n (converted_length shape rate) len_is (le_of_lt J) a.few)
             ∙ round_same binary64 false (m * j * r.units) g.units j 1 G0 (lit< tt) (place m s j Q r.units g.units R G) ∙ whole_is j)
-            (subst (λ (x : ℕ). j < x) (sym l) J) (subst (λ (x : ℕ). x ≤ 16777216) (sym l) a.short) f
-            (subst (λ (x : ℕ). T (finite (widen (slice_index frames (min (j + 1) (x - 1)))))) (sym l) k);
+            (subst (λ (x : ℕ). j < x) (sym long) J) (subst (λ (x : ℕ). x ≤ 16777216) (sym long) a.short) f
+            (subst (λ (x : ℕ). T (finite (widen (slice_index (channel samples n c) (min (j + 1) (x - 1)))))) (sym long) k));
       }
 
 -- ---- the claim, with the conversions that meet its premises

@@ -7,7 +7,8 @@ use Rattle.std.specs.Float.Ieee.Scale.{finite}
 use Rattle.rounding.specs.Laws.{Within}
 use Rattle.rounding.specs.Rounding.{widen}
 use Rattle.buffer.specs.declared.Shape.{Shape}
-use Rattle.reshape.specs.Converting.{relabels, converted_shape, playhead, resampled}
+use Rattle.buffer.specs.Channels.{channel}
+use Rattle.reshape.specs.Converting.{relabels, converted_shape, converted_samples, playhead}
 
 -- a conversion by a real change, from one f32 rate to another, that is accepted
 pub record Converts (shape : Shape) (len : ℕ) (rate : Float) (made : Shape) : Type 0 where
@@ -16,8 +17,8 @@ pub record Converts (shape : Shape) (len : ℕ) (rate : Float) (made : Shape) : 
   pub accepted : converted_shape shape len rate ≡ Ok made
   pub changes : relabels shape rate ≡ false
 
--- Frame i of the result is read at the instant i / target: at i × source / target frames. The position is p times 2 ^ -1074, the rates are s and t times
--- 2 ^ -149, the smallest f64 and the smallest f32.
+-- Frame i of the result lies at the instant i / target, which is i × source / target frames of the source. Where it is read, `playhead`, is p times
+-- 2 ^ -1074 frames; the rates are s and t times 2 ^ -149: the smallest f64 and the smallest f32.
 pub record SameInstant (source target : Float) (i : ℕ) : Type 0 where
   pub p : ℕ
   pub s : ℕ
@@ -30,13 +31,18 @@ pub record SameInstant (source target : Float) (i : ℕ) : Type 0 where
   -- and so the position is within 2 ^ -28 frame
   pub frames : Within (2 ^ 1046 * t) (p * t) (i * s * 2 ^ 1074)
 
--- To m times the rate: m times the frames, and frame m × j of a channel has the value of the source's frame j (a zero's sign may differ), where that frame
--- and the next (or last) are finite.
-pub record KeepsFrames (shape : Shape) (rate : Float) (made : Shape) (m : ℕ) : Type 0 where
+-- frame i of channel c of a buffer of n frames
+abbrev pub frame_at : List ℕ → ℕ → ℕ → ℕ → ℕ
+frame_at samples n c i = slice_index (channel samples n c) i
+
+-- To m times the rate: m times the frames, and in each channel frame m × j of the result has the value of the source's frame j (a zero's sign may differ),
+-- where that frame and the next (or last) are finite.
+pub record KeepsFrames (shape : Shape) (len : ℕ) (rate : Float) (made : Shape) (m : ℕ) : Type 0 where
   pub times : made.frames ≡ m * shape.frames
-  pub kept : (frames : List ℕ) (j : ℕ) → length frames ≡ shape.frames → j < shape.frames → T (finite (widen (slice_index frames j)))
-      → T (finite (widen (slice_index frames (min (j + 1) (shape.frames - 1)))))
-      → T (eq (widen (resampled shape.rate rate frames (m * j))) (widen (slice_index frames j)))
+  pub kept : (samples : List ℕ) (c j : ℕ) → length samples ≡ len → c < shape.channels → j < shape.frames
+      → T (finite (widen (frame_at samples shape.frames c j)))
+      → T (finite (widen (frame_at samples shape.frames c (min (j + 1) (shape.frames - 1)))))
+      → T (eq (widen (frame_at (converted_samples shape samples rate) made.frames c (m * j))) (widen (frame_at samples shape.frames c j)))
 
 -- a whole number as f32
 abbrev pub whole_rate : ℕ → Float
@@ -51,7 +57,7 @@ pub record KeepsTime : Type 0 where
   pub instants : (shape : Shape) (len : ℕ) (rate : Float) (made : Shape) → Converts shape len rate made → (i : ℕ) → i < made.frames
       → SameInstant shape.rate rate i
   pub multiples : (shape : Shape) (len : ℕ) (rate : Float) (made : Shape) → Converts shape len rate made → (s m : ℕ) → shape.rate ≡ whole_rate s
-      → rate ≡ whole_rate (m * s) → KeepsFrames shape rate made m
+      → rate ≡ whole_rate (m * s) → KeepsFrames shape len rate made m
   -- conversions that meet the premises: 2 frames at 24,000 make 4 at 48,000, and 3 at 48,000 make 2 at 32,000
   pub up : Converts (mono 2 24000) 2 (whole_rate 48000) (mono 4 48000)
   pub down : Converts (mono 3 48000) 3 (whole_rate 32000) (mono 2 32000)
