@@ -1,5 +1,5 @@
 """Scripts chosen by hand, at least one for each rule of document 01. `named()` gives (name, units), `in_cents()` those
-of document 02, 2.1, and `previews()` those of 2.2.
+of document 02, 2.1, `previews()` those of 2.2 and `conversions()` those of 2.4.
 
 Where a name begins with `panic: ` the original panics (document 01's excepted cases); these are not recorded.
 """
@@ -470,3 +470,61 @@ def previews_refused():
                                         M() + " 4096 536870913", N()[:-1], N() + "0", M() + " ", " " + M(), f"M {x64(0.0)} 3F800000 00000000",
                                         f"N {x64(0.0)} 3F800000 {x64(1.0)}", f"M  {x64(0.0)} 3F800000 {x64(1.0)}", "MN", "Z"]
     yield "words given up by a preview", [R(), "C 1 2 473B8000", "W 3F800000", M(), "C 1 2 473B8000", "W 3F800000", N(), "Z"]
+
+
+ODD = ("7F800001", "FFC12345", "7FFFFFFF", "7F800000", "FF800000", "80000000", "00000000", "80000001", "7F7FFFFF")
+
+
+def Q(rate, other, *channels):
+    """The conversion of channels from one rate to another."""
+    return words(f"Q {len(channels)} {len(channels[0])} {x32(rate)} {x32(other)}", *(word for channel in channels for word in channel))
+
+
+def conversions():
+    for part in (converted_to_one, converted_past_the_last, converted_between):
+        yield from part()
+
+
+def converted_to_one():
+    """A result of one frame is read at 0."""
+    for n in (1, 2, 3, 16):
+        yield f"convert {n} frames to one", [R(), Q(RATE, RATE / n if n > 1 else 44100.0, ramp(n, 5.0)), Q(RATE, 3000.0, ramp(n, -7.0))]
+    yield "convert one unusual frame to one", [R(), *(Q(RATE, 24000.0, [word]) for word in ODD)]
+    yield "convert two frames, unusual ones, to one", [R(), *(Q(RATE, 24000.0, [word, 1.0]) for word in ODD), *(Q(RATE, 24000.0, [1.0, word]) for word in ODD)]
+    yield "convert to one frame, and one rate further to two", [R(), Q(RATE, 24000.0, ramp(2)), Q(RATE, 24000.001953125, ramp(2))]
+    yield "convert one frame up", [R(), *(Q(24000.0, RATE, [word]) for word in (3.0, *ODD)), Q(44100.0, RATE, [7.0]), Q(3000.0, 768000.0, ["7F800001"])]
+    yield "convert 2 and 32 channels to one frame", [R(), Q(RATE, 24000.0, ramp(2), [9.0, "7F800001"]), Q(RATE, 16000.0, *(ramp(3, 10.0 * c) for c in range(32)))]
+    yield "convert 768,000 to 3,000", [R(), *(Q(768000.0, 3000.0, ramp(n)) for n in (1, 2, 255, 256, 257, 258))]
+
+
+def converted_past_the_last():
+    """At N - 1 the weights apply; above it the last frame's bits are held."""
+    yield "convert 0, 3, twice and back", [R(), Q(24000.0, RATE, [0.0, 3.0]), Q(RATE, 24000.0, [0.0, 1.5, 3.0, 3.0]), Q(24000.0, RATE, [0.0, 3.0], [3.0, -3.0])]
+    yield "convert: unusual last frames, read at N - 1 and above", [R(), *(Q(24000.0, RATE, [1.0, word]) for word in ODD)]
+    yield "convert: unusual last frames, read at N - 1 alone", [R(), *(Q(RATE, 24000.0, [1.0, 2.0, word]) for word in ODD)]
+    yield "convert: unusual last frames, read above N - 1 alone", [R(), *(Q(RATE, 32000.0, [1.0, 2.0, 3.0, 4.0, word]) for word in ODD)]
+    for name, rate in (("just above", 48000.00390625), ("just below", 47999.99609375)):
+        yield f"convert: read {name} N - 1", [R(), *(Q(rate, 24000.0, [1.0, 2.0, word]) for word in (3.0, *ODD))]
+    for name, rate in (("just above", 47999.99609375), ("just below", 48000.00390625)):
+        yield f"convert: read {name} N - 1, up", [R(), *(Q(24000.0, rate, [1.0, word]) for word in (3.0, *ODD))]
+    for rate, other, n in ((3000.0, 44100.0, 11), (3000.0, 22050.0, 21), (9000.0, 7000.0, 28), (9000.0, 7000.0, 55)):
+        yield f"convert: the product first, {n} frames, {rate:.0f} to {other:.0f}", [R(), *(Q(rate, other, [*ramp(n - 1), word]) for word in (100.0, "7F800001"))]
+    yield "convert: the last frame is held for long", [R(), *(Q(3000.0, 768000.0, [0.0, word]) for word in (1.0, "7F800001"))]
+    yield "convert: a position of N", [R(), Q(44100.0, RATE, [*ramp(146), "FFC12345"])]
+
+
+def converted_between():
+    """The frames between, each step rounded."""
+    yield "convert 8,000 to 48,000", [R(), Q(8000.0, RATE, ramp(5)), Q(8000.0, RATE, [0.1, -0.7, 0.3, 0.9, "FFC00001"], [1.0, 0.0, -1.0, 0.0, 1.0])]
+    yield "convert 48,000 to 8,000", [R(), *(Q(RATE, 8000.0, ramp(n)) for n in (5, 6, 7, 12, 13))]
+    wave = [0.1 * (-1) ** i * i for i in range(20)]
+    yield "convert 44,100 to 48,000 and back", [R(), Q(44100.0, RATE, wave), Q(RATE, 44100.0, wave), Q(RATE, 44100.0, ramp(160)), Q(44100.0, RATE, wave, ramp(20))]
+    yield "convert at rates with fractions", [R(), Q(44100.50390625, 48000.25, ramp(9)), Q(3000.000244140625, 3000.125, ramp(9)), Q(96000.7578125, 4096.5, ramp(50)),
+                                              Q(3000.000244140625, 767999.9375, ramp(2))]
+    yield "convert just beyond 0.1, up and down", [R(), Q(RATE, 48000.1015625, ramp(30)), Q(RATE, 47999.8984375, ramp(30)), Q(3000.0, 3000.1000976562, ramp(30)),
+                                                  Q(3000.0, 3000.0998535156, ramp(3))]
+    yield "convert unusual frames", [R(), Q(24000.0, RATE, ODD), Q(32000.0, RATE, ODD), Q(RATE, 44100.0, ODD, ODD[::-1])]
+    yield "convert: each step rounded", [R(), *(Q(32000.0, RATE, [x32(a), x32(b), 0.0]) for a, b in ((0.1, 0.7), (1.0000001, -1.0000002), (3e38, 3.3e38), (1e-45, 3e-45)))]
+    yield "convert 32 channels", [R(), Q(24000.0, RATE, *([float(c), c + 1.0] for c in range(32)))]
+    yield "convert, refused", [R(), words(f"Q 1 1 {x32(RATE)} 7F800000", 1.0), words(f"Q 1 1 7FC00000 {x32(RATE)}", 1.0), words(f"Q 1 2 {x32(2999.0)} {x32(768001.0)}", 1.0, 2.0),
+                               f"Q 0 2 {x32(RATE)} {x32(24000.0)}", f"Q 1 16777217 {x32(RATE)} {x32(3000.0)}", Q(RATE, 24000.0, ramp(2))]

@@ -30,6 +30,8 @@ BAD_BLOCK_LINES = ["B", "B 0 0 0", "b 0000000000000000 3F800000 3FF0000000000000
                    "B 0000000000000000 3F800000 00000000", "B 0000000000000000 3F800000 3ff0000000000000", "B 0000000000000000 3F800000 3FF0000000000000 ",
                    "B 0000000000000000 3F800000 3FF0000000000000 65537", "B 0000000000000000 3F800000 3FF0000000000000 4096 0 0"]
 PREVIEWS = str.maketrans("BDbd", "MNmn")
+LAST_FRAMES = ["7F800001", "FFC12345", "7FFFFFFF", "7F800000", "FF800000", "80000000", "00000000", "80000001", "7F7FFFFF"]
+LARGEST_CONVERSION = 1000  # words of the result of one that is strewn in
 
 
 def f32(x):
@@ -59,6 +61,19 @@ def time_of(unit):
         return None
     time = struct.unpack(">d", bytes.fromhex(words[1]))[0]
     return time if 0 <= time < MAX else None
+
+
+def converted_frames(unit):
+    """The frames of the result where the unit is a conversion by a real change that is not refused; else 0."""
+    if not unit.startswith("Q "):
+        return 0
+    _, channels, frames, *rates = unit.split("\n")[0].split(" ")
+    channels, frames = int(channels), int(frames)
+    rate, other = (struct.unpack(">f", bytes.fromhex(each))[0] for each in rates)
+    if not (1 <= channels <= 32 and 1 <= frames <= 2**24 and 3000 <= rate <= 768000 and 3000 <= other <= 768000):
+        return 0
+    length = math.ceil(frames * (other / rate))
+    return length if abs(rate - other) > 0.1 and length <= 2**24 else 0
 
 
 def previewed(line):
@@ -97,23 +112,30 @@ def make_pools(rng, size):
 class Generator:
     POOL = 80000
 
-    def __init__(self, seed, cents=True, previews=True):
-        """Without `cents` the scripts have no `D` lines: the first ones that were recorded are made so. Previews are strewn
-        in by a copy that draws by itself: without them the scripts of a seed are the same in all else."""
+    def __init__(self, seed, cents=True, previews=True, conversions=True):
+        """Without `cents` the scripts have no `D` lines: the first ones that were recorded are made so. Previews, and conversions
+        beside those of `buffer_call`, are strewn in by copies that draw by themselves: without them the scripts of a seed are the
+        same in all else."""
         self.rng = random.Random(seed)
         self.cents = cents
         self.previews = previews
+        self.conversions = conversions
         self.pools = make_pools(self.rng, self.POOL)
-        self.meter = copy.copy(self)
+        self.meter, self.converter = copy.copy(self), copy.copy(self)
         self.meter.rng = random.Random(f"{seed} previews")
+        self.converter.rng = random.Random(f"{seed} conversions")
 
     # ------------------------------------------------------------ numbers
 
-    def words(self, count):
+    def frames(self, count):
+        """Words, each behind a space."""
         kind = self.rng.choice(["bits", "ordinary", "ordinary", "special", "ramp", "ramp", "flat", "opposite", "ties"])
         pool = self.pools[kind]
         first = 0 if kind == "ramp" else self.rng.randrange(self.POOL - count + 1) if count < self.POOL else 0
-        return words_text(pool[9 * first : 9 * (first + count)])
+        return pool[9 * first : 9 * (first + count)]
+
+    def words(self, count):
+        return words_text(self.frames(count))
 
     def rate(self):
         r = self.rng.random()
@@ -338,11 +360,57 @@ class Generator:
             head, count = f"Q {c} {n} {x32(rate)} {x32(other)}", c * n
         return head + (self.words(count) if 1 <= c <= 32 else "")
 
+    def any_rate(self):
+        """Any f32 from 3,000 to 768,000, the patterns equally likely."""
+        return struct.unpack(">f", self.rng.randint(0x453B8000, 0x493B8000).to_bytes(4, "big"))[0]
+
+    def beside(self, rate):
+        """An accepted rate a few f32 patterns from this one, or itself."""
+        step = self.rng.choice([0, 0, 0, 1, -1, 2, -3])
+        return min(max(struct.unpack(">f", (int(x32(rate), 16) + step).to_bytes(4, "big"))[0], 3000.0), 768000.0)
+
+    def conversion(self):
+        """A conversion, nearly always by a real change: to one frame; by a whole multiple, or nearly, so that frames are read on, just
+        below and just above one; between ordinary rates; just beyond 0.1; between any rates. The last frame is often an unusual one."""
+        rng = self.rng
+        c, n = self.channels(), rng.choice([1, 1, 2, 2, 3, 4, 5, 8, 13, 30, self.length()])
+        kind = rng.choice(["single", "single", "multiple", "multiple", "ordinary", "near", "any"])
+        rate, other = self.any_rate(), self.any_rate()
+        if kind == "single":
+            n = min(n, rng.randint(1, 5))
+            rate = max(n * 3000.0, self.rate())
+            other = self.beside(f32(rate / n)) if rng.random() < 0.5 else f32(rng.uniform(3000, rate / n))
+        elif kind == "multiple":
+            times = rng.choice([2, 2, 3, 4, 6, 7, 16])
+            rate = rng.choice([8000.0, 3000.0, 16000.0, 48000.0, f32(rng.uniform(3000, 48000))])
+            rate, other = self.beside(rate), self.beside(f32(rate * times))
+            if rng.random() < 0.5:
+                rate, other = other, rate
+        elif kind == "ordinary":
+            rate, other = self.rate(), self.rate()
+        elif kind == "near":
+            other = min(max(f32(rate + rng.choice([1, -1]) * rng.choice([0.1015625, 0.125, 0.5, 0.09375])), 3000.0), 768000.0)
+        if c * n * other / rate > LARGEST_CONVERSION:
+            c, n = 1, min(n, 3)
+        words = self.frames(c * n).split()
+        if rng.random() < 0.5:
+            words[n - 1 :: n] = [rng.choice(LAST_FRAMES) for _ in range(c)]
+        return f"Q {c} {n} {x32(rate)} {x32(other)}" + words_text("".join(" " + word for word in words))
+
     # ------------------------------------------------------------ scripts
 
     def script(self):
         units = self.without_previews()
-        return self.meter.strewn(units) if self.previews else units
+        if self.previews:
+            units = self.meter.strewn(units)
+        return self.converter.with_conversions(units) if self.conversions else units
+
+    def with_conversions(self, units):
+        """The script with up to two conversions before or behind its units."""
+        for _ in range(self.rng.choice([0, 0, 0, 1, 1, 2])):
+            at = self.rng.randint(1, len(units))
+            units = [*units[:at], self.conversion(), *units[at:]]
+        return units
 
     def without_previews(self):
         r = self.rng.random()

@@ -6,6 +6,7 @@ mod cents;
 mod player;
 mod positions;
 mod print;
+mod resampling;
 mod table;
 mod text;
 

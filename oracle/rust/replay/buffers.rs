@@ -1,5 +1,6 @@
 //! The buffer calls: copies, extend, split, convert. Row 1 was checked when the first line was read.
-use super::print::{bits, calculated, put_buffer, put_count, put_runs};
+use super::print::{bits, put_buffer, put_count, put_runs};
+use super::resampling::resampled;
 use super::table::{check, row_2_rate, Refusal, FRAMES_MAX};
 use crate::buffer::AudioBuffer;
 
@@ -74,7 +75,7 @@ pub fn copy_to(
         .flat_map(pairs)
         .filter(|(a, b)| a.to_bits() != b.to_bits());
     put_count(out, written.count());
-    put_buffer(out, b'K', &one, bits);
+    put_buffer(out, b'K', &one);
     Ok(())
 }
 
@@ -86,7 +87,7 @@ pub fn extend(first: Shape, second: Shape, words: &[u32], out: &mut Vec<u8>) -> 
     let (before, after) = words.split_at(first.words() as usize);
     let mut joined = first.buffer(before);
     joined.extend(&second.buffer(after));
-    put_buffer(out, b'J', &joined, bits);
+    put_buffer(out, b'J', &joined);
     Ok(())
 }
 
@@ -95,22 +96,27 @@ pub fn split(shape: Shape, point: u64, words: &[u32], out: &mut Vec<u8>) -> Resu
     check(point <= shape.frames, 5)?;
     let mut first = shape.buffer(words);
     let rest = first.split_off(point as usize);
-    put_buffer(out, b'V', &first, bits);
-    put_buffer(out, b'V', &rest, bits);
+    put_buffer(out, b'V', &first);
+    put_buffer(out, b'V', &rest);
     Ok(())
 }
 
+/// The original relabels, and says the result's length and rate; the frames of a real change are document 02's, 2.4.
 pub fn convert(shape: Shape, wanted: f32, words: &[u32], out: &mut Vec<u8>) -> Result<(), Refusal> {
     row_2_rate(shape.rate)?;
     row_2_rate(wanted)?;
     let changed = (shape.rate - wanted).abs() > 0.1 && shape.frames > 0;
-    if changed {
-        let result = (shape.frames as f64 * (wanted as f64 / shape.rate as f64)).ceil();
-        check(result <= FRAMES_MAX as f64, 7)?;
-        check(result != 1.0, 6)?;
-    }
-    let mut buffer = shape.buffer(words);
+    let length = (shape.frames as f64 * (wanted as f64 / shape.rate as f64)).ceil();
+    check(!changed || length <= FRAMES_MAX as f64, 7)?;
+    let source = shape.buffer(words);
+    let mut buffer = source.clone();
     buffer.resample(wanted);
-    put_buffer(out, b'Q', &buffer, if changed { calculated } else { bits });
+    if changed {
+        for c in 0..buffer.number_of_channels() {
+            let frames = resampled(source.get_channel_data(c), shape.rate, wanted, buffer.length());
+            buffer.get_channel_data_mut(c).copy_from_slice(&frames);
+        }
+    }
+    put_buffer(out, b'Q', &buffer);
     Ok(())
 }

@@ -77,7 +77,7 @@ fn put_shape(out: &mut Vec<u8>, letter: u8, buffer: &AudioBuffer) {
     out.push(b'\n');
 }
 
-pub fn put_buffer(out: &mut Vec<u8>, letter: u8, buffer: &AudioBuffer, bits: fn(&f32) -> u32) {
+pub fn put_buffer(out: &mut Vec<u8>, letter: u8, buffer: &AudioBuffer) {
     put_shape(out, letter, buffer);
     for c in 0..buffer.number_of_channels() {
         put_runs(out, c as u64, buffer.get_channel_data(c).iter().map(bits));
