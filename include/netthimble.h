@@ -50,7 +50,7 @@ enum {
     NETTHIMBLE_CHANNEL = 3,  /* copy: a channel number not below the count */
     NETTHIMBLE_UNLIKE = 4,   /* extend: rates or channel counts differ */
     NETTHIMBLE_POINT = 5,    /* split: the point is above the frame count */
-    NETTHIMBLE_SINGLE = 6,   /* convert by a real change: a result of one frame */
+    NETTHIMBLE_SINGLE = 6,   /* retired: no call gives it since document 02's 2.4 */
     NETTHIMBLE_LONG = 7,     /* extend, convert: a result over 16,777,216 frames */
     NETTHIMBLE_LENGTH = 8,   /* an output that is not exactly the result's length; a block's that is not 4,096 long */
     NETTHIMBLE_VALUE = 9,    /* a message's value is not finite; or negative, in start and stop (-0 is not) */
@@ -274,10 +274,14 @@ netthimble_parts netthimble_split_shapes(netthimble_shape shape, size_t len, siz
 /* Splits a buffer at the frame `point`, into outputs of exactly the parts' lengths. Refused: 1, 2, 5, 8; both outputs are then untouched. */
 netthimble_parts netthimble_split(netthimble_shape shape, const uint32_t *samples, size_t samples_len, size_t point, uint32_t *first, size_t first_len, uint32_t *rest, size_t rest_len);
 
-/* The shape of a buffer of `len` samples, converted to another rate. Refused: 1, 2, 7, 6. */
+/* The shape of a buffer of `len` samples, converted to another rate: within 0.1 of its own, or of an empty buffer, the rate alone changes;
+ * else it has ceil(frames x (rate / shape.rate)) frames, worked in double. Refused: 1, 2, 7. */
 netthimble_shaped netthimble_converted_shape(netthimble_shape shape, size_t len, float rate);
 
-/* Converts a buffer to another rate, into `out`, which is exactly the result's length. Refused: 1, 2, 7, 6, 8; `out` is then untouched. */
+/* Converts a buffer to another rate, into `out`, which is exactly the result's length. Where the rate alone changes the samples are copied.
+ * Else frame i of the result is read at i x shape.rate / rate in frames of the source (in double, the product first), which is its own
+ * instant: between two frames at (1 - k) x the one + k x the next in float, where k is the fraction; a NaN that this gives is 7FC00000. Past the
+ * last frame the result has the last frame's bits. Refused: 1, 2, 7, 8; `out` is then untouched. */
 netthimble_shaped netthimble_convert(netthimble_shape shape, const uint32_t *samples, size_t samples_len, float rate, uint32_t *out, size_t out_len);
 
 /* ---- the messages with the player behind a pointer: each stores the player that the call leaves, and returns the refusal's number, 0

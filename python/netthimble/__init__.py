@@ -8,6 +8,7 @@
     block.position, block.ended    # seconds of the clip; whether the player has ended
     player.block(0.01, cents=-50)  # the next block, a quarter tone lower
     player.preview(0.02)           # what the block at 0.02 would be; the player stays
+    clip.convert(44100.0)          # the clip at another rate, its frames at the same instants
 
 A call that the library refuses raises Refused, whose number is document 01's, and changes nothing.
 The library is target/c/libnetthimble.so of this repository, or the file that the environment variable NETTHIMBLE_LIBRARY names."""
@@ -31,7 +32,7 @@ WORDS = {
     3: "copy: a channel number not below the count",
     4: "extend: rates or channel counts differ",
     5: "split: the point is above the frame count",
-    6: "convert: a result of one frame",
+    6: "retired: no call gives it",
     7: "a result over 16,777,216 frames",
     8: "an output that is not exactly the result's length",
     9: "a value that is not finite; or negative, in start and stop",
@@ -109,6 +110,8 @@ _CALLS = {
     "factor": (_Factor, [c_int32]),
     "clip_shape": (_Shaped, [_BYTES, c_size_t]),
     "clip_frames": (c_uint32, [_BYTES, c_size_t, _WORDS, c_size_t]),
+    "converted_shape": (_Shaped, [_Shape, c_size_t, c_float]),
+    "convert": (_Shaped, [_Shape, _WORDS, c_size_t, c_float, _WORDS, c_size_t]),
 }
 
 
@@ -181,6 +184,13 @@ class Clip:
     def _set(self, channels, frames, rate, data):
         self._shape, self._lent = (channels, frames, rate), (c_uint32 * (len(data) // 4)).from_buffer_copy(data)
 
+    @classmethod
+    def _of(cls, shape, words):
+        """The clip of a shape that the library answered, and the words of its samples."""
+        clip = cls.__new__(cls)
+        clip._set(shape.channels, shape.frames, shape.rate, bytes(words))
+        return clip
+
     channels = property(lambda self: self._shape[0])
     frames = property(lambda self: self._shape[1])
     rate = property(lambda self: self._shape[2])
@@ -194,6 +204,19 @@ class Clip:
     def samples(self, channel):
         """The floats of a channel, as a copy."""
         return _floats(self.bits(channel))
+
+    def convert(self, rate):
+        """A clip at another rate. Within 0.1 of its own the rate alone changes; else frame i is read at i x the own rate / `rate`, so it
+        stands at the same instant, between two frames weighted, and past the last one with its bits."""
+        _check_floats()
+        source = _Shape(*self._shape)
+        made = _CALL["converted_shape"](source, len(self._lent), rate)
+        if not made.refusal:
+            words = (c_uint32 * (made.shape.channels * made.shape.frames))()
+            made = _CALL["convert"](source, self._lent, len(self._lent), rate, words, len(words))
+        if made.refusal:
+            raise Refused("convert", made.refusal)
+        return Clip._of(made.shape, words)
 
     def __repr__(self):
         return f"<netthimble.Clip: {self.channels} channel(s) of {self.frames} frames at {self.rate:g}>"
@@ -210,9 +233,7 @@ def load(source):
     refusal = _CALL["clip_frames"](file, len(data), words, len(words))
     if refusal:
         raise Refused("clip", refusal)
-    clip = Clip.__new__(Clip)
-    clip._set(read.shape.channels, read.shape.frames, read.shape.rate, bytes(words))
-    return clip
+    return Clip._of(read.shape, words)
 
 
 class Block:

@@ -444,12 +444,14 @@ static void buffers(void) {
     samples[1] = netthimble_bits(3.0f);
     netthimble_shaped r = netthimble_convert(a, samples, 2, 48000.0f, out, 4);
     CHECK(r.refusal == 0 && r.shape.channels == 1 && r.shape.frames == 4 && r.shape.rate == 48000.0f);
-    for (int i = 0; i < 4; i++) CHECK(netthimble_float(out[i]) == (float)i);
+    for (int i = 0; i < 4; i++) CHECK(netthimble_float(out[i]) == (i < 2 ? 1.5f * (float)i : 3.0f));
     CHECK(netthimble_convert(a, samples, 2, 48000.0f, out, 3).refusal == 8);
     CHECK(netthimble_convert(a, samples, 1, NAN, out, 3).refusal == 1);
     CHECK(netthimble_convert(a, samples, 2, NAN, out, 3).refusal == 2);
     CHECK(netthimble_converted_shape(shape(1, 16777216, 3000.0f), 16777216, 768000.0f).refusal == 7);
-    CHECK(netthimble_converted_shape(shape(1, 2, 48000.0f), 2, 24000.0f).refusal == 6);
+    r = netthimble_convert(b, samples, 2, 24000.0f, half, 1);
+    CHECK(r.refusal == 0 && r.shape.channels == 1 && r.shape.frames == 1 && r.shape.rate == 24000.0f && half[0] == samples[0]);
+    CHECK(netthimble_convert(b, samples, 2, 24000.0f, half, 0).refusal == 8);
     CHECK(netthimble_extend(a, samples, 2, b, samples, 2, out, 4).refusal == 4);
     CHECK(netthimble_extend(a, samples, 2, odd, samples, 2, out, 4).refusal == 2);
     CHECK(netthimble_extend(a, samples, 2, a, samples, 2, out, 3).refusal == 8);

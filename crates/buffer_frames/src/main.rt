@@ -135,10 +135,13 @@ fn run_joins(rt: &impl Print) -> io::Result<()> {
     print_parted(rt, parted, &first, &rest)
 }
 
-// Conversions of the frames 0 and 3: to 48,000.09375 relabels, to 48,000.1015625 makes three
-// frames, and from 24,000 to 48,000 makes four.
+// Conversions of the frames 0 and 3 (document 02, 2.4): to 48,000.09375 relabels, to 48,000.1015625 makes three frames, from
+// 24,000 to 48,000 makes four, the last one held. Then 3 and 0 from 48,000 to 24,000, which makes one frame, and 0, 3 and a NaN,
+// whose own bits are held in the sixth frame.
 fn run_conversions(rt: &impl Print) -> io::Result<()> {
     let samples = [0u32, 0x4040_0000];
+    let falling = [0x4040_0000u32, 0];
+    let to_nan = [0u32, 0x4040_0000, 0x7F80_0001];
     let at_48000 = Shape {
         channels: 1,
         frames: 2,
@@ -149,17 +152,26 @@ fn run_conversions(rt: &impl Print) -> io::Result<()> {
         frames: 2,
         rate: 24000.0,
     };
+    let longer = Shape {
+        channels: 1,
+        frames: 3,
+        rate: 24000.0,
+    };
+    let mut one = [0u32; 1];
     let mut two = [0u32; 2];
     let mut three = [0u32; 3];
     let mut four = [0u32; 4];
-    let near = reshape::convert(at_48000, &samples, 48000.09375, &mut two);
-    print_made(rt, near, &two)?;
-    let apart = reshape::convert(at_48000, &samples, 48000.1015625, &mut three);
-    print_made(rt, apart, &three)?;
-    let twice = reshape::convert(at_24000, &samples, 48000.0, &mut four);
-    print_made(rt, twice, &four)?;
-    let single = reshape::convert(at_48000, &samples, 24000.0, &mut four);
-    print_made(rt, single, &four)
+    let mut six = [0u32; 6];
+    let relabelled = reshape::convert(at_48000, &samples, 48000.09375, &mut two);
+    print_made(rt, relabelled, &two)?;
+    let beyond = reshape::convert(at_48000, &samples, 48000.1015625, &mut three);
+    print_made(rt, beyond, &three)?;
+    let doubled = reshape::convert(at_24000, &samples, 48000.0, &mut four);
+    print_made(rt, doubled, &four)?;
+    let single = reshape::convert(at_48000, &falling, 24000.0, &mut one);
+    print_made(rt, single, &one)?;
+    let held = reshape::convert(longer, &to_nan, 48000.0, &mut six);
+    print_made(rt, held, &six)
 }
 
 // Answers that need no samples: the length is worked in f64, and each refusal of a shape's call.
