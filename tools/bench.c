@@ -203,18 +203,27 @@ static void blocks(void) {
     } \
     printf("%s %.0f\n", name, best); }
 
+/* A conversion of a million frames a channel, 44,100 to 48,000. */
+static void conversion(size_t channels) {
+    netthimble_shape source = {channels, MILLION, 44100.0f};
+    size_t given = channels * MILLION, made = channels * netthimble_converted_shape(source, given, RATE).shape.frames;
+    uint32_t *words = frames_of(given, true), *to = frames_of(made, true);
+    char name[64];
+    snprintf(name, sizeof name, "convert-%zu", channels);
+    BEST(name, must(netthimble_convert(source, words, given, RATE, to, made).refusal))
+    free(words);
+    free(to);
+}
+
 static void buffers(void) {
-    uint32_t *words = frames_of(2 * MILLION, true), *to = frames_of(3 * MILLION, true);
-    netthimble_shape source = {1, MILLION, 44100.0f};
-    size_t made = netthimble_converted_shape(source, MILLION, RATE).shape.frames;
+    uint32_t *words = frames_of(MILLION, true), *to = frames_of(MILLION, true);
     BEST("copy-from-channel", must(netthimble_copy_from_channel(1, MILLION, words, MILLION, to, MILLION, 0, 0).refusal))
     BEST("copy-to-channel", must(netthimble_copy_to_channel(1, MILLION, to, MILLION, words, MILLION, 0, 0).refusal))
     BEST("memcpy-million", memcpy(to, words, 4 * MILLION))
-    BEST("convert-1", must(netthimble_convert(source, words, MILLION, RATE, to, made).refusal))
-    source.channels = 2;
-    BEST("convert-2", must(netthimble_convert(source, words, 2 * MILLION, RATE, to, 2 * made).refusal))
     free(words);
     free(to);
+    size_t counts[] = {1, 2, 8};
+    for (int c = 0; c < 3; c++) conversion(counts[c]);
 }
 
 int main(void) {
