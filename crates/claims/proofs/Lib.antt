@@ -1,4 +1,4 @@
--- The road to the long-run statement; blocks in cents and previews.
+-- The road to the long-run statement; blocks in cents and previews; conversions.
 pub mod Order
 pub mod Units
 pub mod Position

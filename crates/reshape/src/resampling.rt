@@ -28,8 +28,8 @@ pub(crate) struct Rates {
 // place past the last frame has a frame past it.
 #[derive(Drop)]
 struct Places {
-    frame: [u32; 64],
-    fraction: [f32; 64],
+    frame: [u32; BLOCK],
+    fraction: [f32; BLOCK],
 }
 
 // The frame k of the way from one frame to the next.
@@ -42,7 +42,7 @@ fn mixed(k: f32, frame: u32, next: u32) -> u32
     value.to_pattern()
 }
 
-// What a channel has at a place.
+// What a channel has at a place: past the last frame, that frame's own bits.
 #[tactic(auto, unfolding(crate::specs::Places::read_at))]
 fn read_at(channel: &[u32], frame: usize, k: f32) -> u32
     requires { 1 ≤ length channel.now }
@@ -162,8 +162,8 @@ pub(crate) fn resample_channels(out: &mut [u32], channels: Channels, size: usize
 {
     let last = (channels.frames - 1) as u32;
     let mut places = Places {
-        frame: [0; 64],
-        fraction: [0.0; 64],
+        frame: [0; BLOCK],
+        fraction: [0.0; BLOCK],
     };
     for block in 0..size.div_ceil(BLOCK) {
         let first = BLOCK * block;
