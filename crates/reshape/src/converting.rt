@@ -1,5 +1,5 @@
-// Conversion of a buffer to another rate: relabelled, or read at evenly spaced places between the
-// first frame and the last.
+// Conversion of a buffer to another rate: relabelled, or each frame of the result read at its own
+// instant.
 ghost use Rattle.std.specs.Prelude.{◌≡◌, length};
 ghost use Rattle.buffer.specs.Answers.{answer_of, stored};
 ghost use Rattle.reshape.specs.Fitting.{fitted};
