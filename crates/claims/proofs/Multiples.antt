@@ -27,7 +27,8 @@ use Rattle.claims.proofs.Conversions.{playhead_is, accepted, ratio_is, up_count,
 use Rattle.lists.specs.Rows.{rows}
 use Rattle.lists.specs.Table.{table, length_table, get_or_table}
 use Rattle.buffer.specs.Channels.{channel, length_channel, channel_rows}
-use Rattle.claims.specs.Conversions.{frame_at, Converts, KeepsFrames, whole_rate, mono, KeepsTime}
+use Rattle.reshape.specs.Known.{single, mono}
+use Rattle.claims.specs.Conversions.{frame_at, Converts, KeepsFrames, KeepsTime}
 
 -- ---- (1 - 0) × a + 0 × b is a in value: a zero of either sign is added to a
 abbrev nought : Bool → Float
@@ -163,28 +164,28 @@ kept_frame source target frames i j e l L h k =
 
 -- ---- rates that are whole numbers
 -- a rate above 768,000 is 768,001 at least
-too_large : (n : ℕ) → 768001 ≤ n → T (le (whole_rate 768001) (whole_rate n))
+too_large : (n : ℕ) → 768001 ≤ n → T (le (single 768001) (single n))
 unfolding of_int
 too_large n l = round_mono binary32 768001 1 n 1 (lit< tt) (lit< tt) (mul-le-mul_right 1 l)
 
-apart : T (le (whole_rate 768001) (whole_rate 768000)) → ⊥
+apart : T (le (single 768001) (single 768000)) → ⊥
 unfolding of_int round le lt eq
 apart h = h
 
-rate_bound : (n : ℕ) → T (valid_rate (whole_rate n)) → n ≤ 768000
+rate_bound : (n : ℕ) → T (valid_rate (single n)) → n ≤ 768000
 unfolding valid_rate
 rate_bound n t = go (leb n 768000) (leb→le n 768000) (nleb→lt n 768000)
   where
     go : (b : Bool) → (T b → n ≤ 768000) → (T (not b) → 768000 < n) → n ≤ 768000
     go true p q = p tt
     go false p q =
-        absurd (apart (le_trans_float (whole_rate 768001) (whole_rate n) (whole_rate 768000) (too_large n (q tt))
-        (and_r (le (whole_rate 3000) (whole_rate n)) (le (whole_rate n) (whole_rate 768000)) t)))
+        absurd (apart (le_trans_float (single 768001) (single n) (single 768000) (too_large n (q tt))
+        (and_r (le (single 3000) (single n)) (le (single n) (single 768000)) t)))
 
 -- in binary32's units
-rate_units : (r : Float) (R n : ℕ) → HasValue r false R (2 ^ 149) → r ≡ whole_rate n → n ≤ 768000 → R ≡ n * 2 ^ 149
+rate_units : (r : Float) (R n : ℕ) → HasValue r false R (2 ^ 149) → r ≡ single n → n ≤ 768000 → R ≡ n * 2 ^ 149
 rate_units r R n v e l =
-    sym (mul-one R) ∙ two_values (whole_rate n) false false R (2 ^ 149) n 1 (subst (λ (x : Float). HasValue x false R (2 ^ 149)) e v) (whole_exact binary32 n (le_trans l (lit≤ tt)))
+    sym (mul-one R) ∙ two_values (single n) false false R (2 ^ 149) n 1 (subst (λ (x : Float). HasValue x false R (2 ^ 149)) e v) (whole_exact binary32 n (le_trans l (lit≤ tt)))
 
 few_times : (m s Q : ℕ) → 0 < Q → 3000 * Q ≤ s * Q → m * s ≤ 768000 → m ≤ 256
 few_times m s Q Q0 h l =
@@ -234,7 +235,7 @@ result_frame shape rate made samples c i changes long C I =
     ∙ ap (λ (l : List ℕ). slice_index l i) (channel_rows (converted_length shape rate) shape.channels f (λ k b. length_table (converted_length shape rate) (resampled shape.rate rate (channel samples shape.frames k))) c C)
     ∙ get_or_table (converted_length shape rate) (resampled shape.rate rate (channel samples shape.frames c)) i 0 (subst (λ (x : ℕ). i < x) long I)
 
-module _ (shape : Shape) (len : ℕ) (rate : Float) (made : Shape) (h : Converts shape len rate made) (s m : ℕ) (own : shape.rate ≡ whole_rate s) (new : rate ≡ whole_rate (m * s)) where
+module _ (shape : Shape) (len : ℕ) (rate : Float) (made : Shape) (h : Converts shape len rate made) (s m : ℕ) (own : shape.rate ≡ single s) (new : rate ≡ single (m * s)) where
   multiple : KeepsFrames shape len rate made m
   multiple =
       let Q = 2 ^ 149 in
@@ -269,11 +270,11 @@ module _ (shape : Shape) (len : ℕ) (rate : Float) (made : Shape) (h : Converts
       }
 
 -- ---- the claim, with the conversions that meet its premises
-faster : Converts (mono 2 24000) 2 (whole_rate 48000) (mono 4 48000)
+faster : Converts (mono 2 24000) 2 (single 48000) (mono 4 48000)
 unfolding converted_shape converted_length relabels valid_shape valid_rate float_eq ceil magnitude round sum add sub mul div neg lt eq le of_int to_unsigned fits of_bits
 faster = record { source_single = tt; target_single = tt; accepted = refl; changes = refl }
 
-slower : Converts (mono 3 48000) 3 (whole_rate 32000) (mono 2 32000)
+slower : Converts (mono 3 48000) 3 (single 32000) (mono 2 32000)
 unfolding converted_shape converted_length relabels valid_shape valid_rate float_eq ceil magnitude round sum add sub mul div neg lt eq le of_int to_unsigned fits of_bits
 slower = record { source_single = tt; target_single = tt; accepted = refl; changes = refl }
 

@@ -1,7 +1,7 @@
 -- Document 02, 2.4: conversion by a real change keeps time, so that converted clips lie over the originals at the same instants. Definitions only.
-use Rattle.std.specs.Prelude.{◌≡◌, ℕ, ◌+◌, ◌-◌, ◌*◌, ◌^◌, ◌<◌, false, T, min, List, length, slice_index, pos, Float, Ok}
+use Rattle.std.specs.Prelude.{◌≡◌, ℕ, ◌+◌, ◌-◌, ◌*◌, ◌^◌, ◌<◌, false, T, min, List, length, slice_index, Float, Ok}
 use Rattle.std.specs.Float.{binary32}
-use Rattle.std.specs.Float.Ieee.{of_int, fits, eq}
+use Rattle.std.specs.Float.Ieee.{fits, eq}
 use Rattle.std.specs.Float.Ieee.Exact.{HasValue}
 use Rattle.std.specs.Float.Ieee.Scale.{finite}
 use Rattle.rounding.specs.Laws.{Within}
@@ -9,6 +9,7 @@ use Rattle.rounding.specs.Rounding.{widen}
 use Rattle.buffer.specs.declared.Shape.{Shape}
 use Rattle.buffer.specs.Channels.{channel}
 use Rattle.reshape.specs.Converting.{relabels, converted_shape, converted_samples, playhead}
+use Rattle.reshape.specs.Known.{single, mono}
 
 -- a conversion by a real change, from one f32 rate to another, that is accepted
 pub record Converts (shape : Shape) (len : ℕ) (rate : Float) (made : Shape) : Type 0 where
@@ -44,20 +45,12 @@ pub record KeepsFrames (shape : Shape) (len : ℕ) (rate : Float) (made : Shape)
       → T (finite (widen (frame_at samples shape.frames c (min (j + 1) (shape.frames - 1)))))
       → T (eq (widen (frame_at (converted_samples shape samples rate) made.frames c (m * j))) (widen (frame_at samples shape.frames c j)))
 
--- a whole number as f32
-abbrev pub whole_rate : ℕ → Float
-whole_rate n = of_int binary32 (pos n)
-
--- one channel
-abbrev pub mono : ℕ → ℕ → Shape
-mono frames rate = record { channels = 1; frames = frames; rate = whole_rate rate }
-
--- ---- the claim
+-- ---- the claim; `single n` is the whole number n as f32, and `mono` the shape of one channel
 pub record KeepsTime : Type 0 where
   pub instants : (shape : Shape) (len : ℕ) (rate : Float) (made : Shape) → Converts shape len rate made → (i : ℕ) → i < made.frames
       → SameInstant shape.rate rate i
-  pub multiples : (shape : Shape) (len : ℕ) (rate : Float) (made : Shape) → Converts shape len rate made → (s m : ℕ) → shape.rate ≡ whole_rate s
-      → rate ≡ whole_rate (m * s) → KeepsFrames shape len rate made m
+  pub multiples : (shape : Shape) (len : ℕ) (rate : Float) (made : Shape) → Converts shape len rate made → (s m : ℕ) → shape.rate ≡ single s
+      → rate ≡ single (m * s) → KeepsFrames shape len rate made m
   -- conversions that meet the premises: 2 frames at 24,000 make 4 at 48,000, and 3 at 48,000 make 2 at 32,000
-  pub up : Converts (mono 2 24000) 2 (whole_rate 48000) (mono 4 48000)
-  pub down : Converts (mono 3 48000) 3 (whole_rate 32000) (mono 2 32000)
+  pub up : Converts (mono 2 24000) 2 (single 48000) (mono 4 48000)
+  pub down : Converts (mono 3 48000) 3 (single 32000) (mono 2 32000)

@@ -3,7 +3,7 @@ use Rattle.std.specs.Prelude.{◌≡◌, T, length, take, drop, ◌^◌}
 use lib.Ieee.{Float, nan}
 use Rattle.buffer.specs.Limits.{valid_rate}
 use Rattle.reshape.specs.Converting.{resampled, resampled_channels}
-use Rattle.reshape.specs.Places.{frame_of, fraction_of, at_places}
+use Rattle.reshape.specs.Places.{place_frame, place_fraction, at_places}
 use Rattle.reshape.proofs.Places.{read_is}
 use Rattle.std.proofs.Math.Path.{refl, sym, ap}
 use Rattle.std.proofs.Common.{◌∙◌, subst, mul-zero, append_assoc, append-nil, drop_of_length-le, arith, not-suc-le-zero, le_of_suc-le-suc, zero-add}
@@ -60,8 +60,8 @@ rows_all size (suc c) out =
 -- a block of a channel's frames, read at the places that stand in the arrays, behind those that are stored
 pub block_read : (source target : Float) (frames init frame frame_before : List ℕ) (fraction fraction_before : List Float) (last first n : ℕ) → length frames ≡ last + 1
     → T (valid_rate source) → T (valid_rate target) → last < 16777216 → first + n < 2 ^ 32 → n ≤ length frame_before → n ≤ length fraction_before → first + n ≤ length init
-    → frame ≡ filled n (λ i. frame_of source target last (first + i)) frame_before
-    → fraction ≡ filled n (λ i. fraction_of source target last (first + i)) fraction_before
+    → frame ≡ filled n (λ i. place_frame source target last (first + i)) frame_before
+    → fraction ≡ filled n (λ i. place_fraction source target last (first + i)) fraction_before
     → put first n (table n (at_places frame fraction frames)) (filled first (resampled source target frames) init) ≡ filled (first + n) (resampled source target frames) init
 block_read source target frames init frame frame_before fraction fraction_before last first n full from to few small room room' fits f g =
     let here : (i : ℕ) → i < n → at_places frame fraction frames i ≡ resampled source target frames (first + i) =
@@ -69,8 +69,8 @@ block_read source target frames init frame frame_before fraction fraction_before
     rw (
       f,
       g,
-      get_or_filled n (λ k. frame_of source target last (first + k)) frame_before i 0 b (omega (arith, b, room)),
-      get_or_filled n (λ k. fraction_of source target last (first + k)) fraction_before i nan b (omega (arith, b, room')),
+      get_or_filled n (λ k. place_frame source target last (first + k)) frame_before i 0 b (omega (arith, b, room)),
+      get_or_filled n (λ k. place_fraction source target last (first + k)) fraction_before i nan b (omega (arith, b, room')),
     )
     (read_is source target frames last (first + i) full from to few (omega (arith, b, small))) in
     rw (table_same n (at_places frame fraction frames) (λ i. resampled source target frames (first + i)) here) (filled_block first n (resampled source target frames) init fits)
@@ -93,8 +93,8 @@ module _ (source target : Float) (samples out : List ℕ) (count frames size las
   begun = sym (sym (append-nil (rows count (channel out size))) ∙ ap (λ (l : List ℕ). rows count (channel out size) ++ l) (sym (drop_of_length-le out {i = size * count} (omega (arith, whole)))) ∙ rows_all size count out)
 
   pub more : (first n : ℕ) (frame frame_before : List ℕ) (fraction fraction_before : List Float) (m : List ℕ) → n ≤ length frame_before → n ≤ length fraction_before → first + n ≤ size
-      → frame ≡ filled n (λ i. frame_of source target last (first + i)) frame_before
-      → fraction ≡ filled n (λ i. fraction_of source target last (first + i)) fraction_before
+      → frame ≡ filled n (λ i. place_frame source target last (first + i)) frame_before
+      → fraction ≡ filled n (λ i. place_fraction source target last (first + i)) fraction_before
       → m ≡ rows count (written first)
       → rows count (λ c. put first n (table n (at_places frame fraction (channel samples frames c))) (channel m size c)) ≡ rows count (written (first + n))
   more first n frame frame_before fraction fraction_before m room room' within f g made =

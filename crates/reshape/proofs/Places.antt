@@ -12,7 +12,7 @@ use Rattle.rounding.proofs.Operations.{mul_at, div_at}
 use Rattle.rounding.specs.Rounding.{whole, floor, truncate}
 use Rattle.buffer.specs.Limits.{valid_rate}
 use Rattle.reshape.specs.Converting.{playhead, previous, fraction, mixed, resampled}
-use Rattle.reshape.specs.Places.{frame_of, fraction_of, read_at}
+use Rattle.reshape.specs.Places.{place_frame, place_fraction, read_at}
 
 -- ---- a number that is not negative, or is too large for the format
 abbrev Unsigned : Float → Type 0
@@ -118,8 +118,8 @@ module _ (source target p : Float) (last i : ℕ) (from : T (valid_rate source))
 
 -- ---- what a channel has at the place of frame i is frame i of the result
 pub read_is : (source target : Float) (frames : List ℕ) (last i : ℕ) → length frames ≡ last + 1 → T (valid_rate source) → T (valid_rate target) → last < 16777216 → i < 2 ^ 32
-    → read_at frames (frame_of source target last i) (fraction_of source target last i) ≡ resampled source target frames i
-unfolding read_at frame_of fraction_of resampled
+    → read_at frames (place_frame source target last i) (place_fraction source target last i) ≡ resampled source target frames i
+unfolding read_at place_frame place_fraction resampled
 read_is source target frames last i full from to few small = go (lt (whole last) p) refl
   where
     p : Float

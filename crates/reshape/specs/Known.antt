@@ -7,7 +7,7 @@ use Rattle.reshape.specs.Converting.{converted_shape, converted_samples}
 use Rattle.std.specs.Prelude.{Ok}
 
 -- a whole number as f32, and its bits
-abbrev single : ℕ → Float
+abbrev pub single : ℕ → Float
 single n = of_int binary32 (pos n)
 
 abbrev bits : ℕ → ℕ
@@ -18,7 +18,7 @@ abbrev halves : ℕ → ℕ
 halves n = to_bits binary32 (fin false n (negsuc 0))
 
 -- one channel
-abbrev mono : ℕ → ℕ → Shape
+abbrev pub mono : ℕ → ℕ → Shape
 mono frames rate = record { channels = 1; frames = frames; rate = single rate }
 
 unfoldable pub KnownReshape : Type 0

@@ -6,14 +6,14 @@ use Rattle.rounding.specs.Rounding.{whole}
 use Rattle.reshape.specs.Converting.{playhead, previous, fraction, mixed}
 
 -- the frame at or before the place of frame i, of frames up to the last one; past the last one for a place past it
-unfoldable pub frame_of : Float → Float → ℕ → ℕ → ℕ
-frame_of source target last i =
+unfoldable pub place_frame : Float → Float → ℕ → ℕ → ℕ
+place_frame source target last i =
     let position = playhead source target i in
     cond (lt (whole last) position) (last + 1) (previous position)
 
 -- how far past that frame; 0 for a place past the last one
-unfoldable pub fraction_of : Float → Float → ℕ → ℕ → Float
-fraction_of source target last i =
+unfoldable pub place_fraction : Float → Float → ℕ → ℕ → Float
+place_fraction source target last i =
     let position = playhead source target i in
     cond (lt (whole last) position) (from_bits binary32 0) (fraction position)
 

@@ -7,7 +7,7 @@ ghost use Rattle.lists.specs.Rows.{rows};
 ghost use Rattle.buffer.specs.Limits.{valid_rate};
 ghost use Rattle.lists.specs.Table.{table, filled};
 ghost use Rattle.reshape.specs.Converting.{playhead, mixed, resampled, resampled_channels};
-ghost use Rattle.reshape.specs.Places.{frame_of, fraction_of, read_at, at_places};
+ghost use Rattle.reshape.specs.Places.{place_frame, place_fraction, read_at, at_places};
 
 use super::parts::write_parts;
 use buffer::Channels;
@@ -79,10 +79,10 @@ impl Rates {
     }
 
     // The same as a frame and how far past it, of frames up to number `last`.
-    #[tactic(auto, using(crate::proofs::Places::counted, crate::proofs::Places::floored, crate::proofs::Places::same), unfolding(crate::specs::Places::frame_of, crate::specs::Places::fraction_of, crate::specs::Converting::fraction))]
+    #[tactic(auto, using(crate::proofs::Places::counted, crate::proofs::Places::floored, crate::proofs::Places::same), unfolding(crate::specs::Places::place_frame, crate::specs::Places::place_fraction, crate::specs::Converting::fraction))]
     fn place(self, last: u32, i: u32) -> (u32, f32)
         requires { last < 16777216 }
-        ensures { (result.0 ≡ frame_of self.source self.target last i) × (result.1 ≡ fraction_of self.source self.target last i) }
+        ensures { (result.0 ≡ place_frame self.source self.target last i) × (result.1 ≡ place_fraction self.source self.target last i) }
     {
         let position = self.playhead(i);
         if f64::from(last) < position {
@@ -100,8 +100,8 @@ impl Places {
         requires last { last < 16777216 }
         requires fits { (first + count < 2 ^ 32) × (count ≤ 64) }
         ensures room { (count ≤ length self.old.frame) × (count ≤ length self.old.fraction) }
-        ensures frames { self.new.frame ≡ filled count (λ i. frame_of rates.source rates.target last (first + i)) self.old.frame }
-        ensures fractions { self.new.fraction ≡ filled count (λ i. fraction_of rates.source rates.target last (first + i)) self.old.fraction }
+        ensures frames { self.new.frame ≡ filled count (λ i. place_frame rates.source rates.target last (first + i)) self.old.frame }
+        ensures fractions { self.new.fraction ≡ filled count (λ i. place_fraction rates.source rates.target last (first + i)) self.old.fraction }
     {
         for i in 0..count {
             (self.frame[i], self.fraction[i]) = rates.place(last, first + i as u32);
