@@ -35,3 +35,5 @@ number refused.Speed = 14
 number refused.Layout = 15
 -- block in cents: the cents outside −12,000 to 12,000 (document 02, 2.1)
 number refused.Cents = 16
+-- clip with an onset: the onset not below the frames (document 02, 2.5)
+number refused.Onset = 17

@@ -19,6 +19,7 @@ pub enum Refusal {
     Speed = 14,
     Layout = 15,
     Cents = 16,
+    Onset = 17,
 }
 
 impl Refusal {

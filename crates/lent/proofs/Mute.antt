@@ -105,6 +105,7 @@ some refused.Time = omega arith
 some refused.Speed = omega arith
 some refused.Layout = omega arith
 some refused.Cents = omega arith
+some refused.Onset = omega arith
 
 refuses : (p : Player) (passed : Result Unit Refusal) (r : BlockReport) → (passed ≡ Ok tt → ⊥) → Refuses p (after_checks passed r)
 refuses p (Ok tt) r never = absurd (never refl)
