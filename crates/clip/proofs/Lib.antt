@@ -2,5 +2,13 @@
 mod Numbers
 mod Words
 mod Each
+mod LaidOut
 mod RoundTrip
 mod Accepted
+mod WriteWords
+mod HeaderWords
+mod Writable
+mod TwoReaders
+mod WrittenClips
+mod Longest
+mod Known

@@ -1,6 +1,8 @@
--- The bytes of a clip file (document 01, 'Clip file'). Definitions only.
+-- The bytes of a clip file (document 01, 'Clip file'), with either header (document 02, 2.5). Definitions only.
 use Rattle.std.specs.Prelude.{List, [], ◌∷◌, ◌++◌, ℕ, zero, suc, ◌+◌, ◌*◌, ◌/◌, ◌%◌}
 use Rattle.lists.specs.Table.{table}
+use Rattle.clip.specs.declared.Form.{Form}
+use Rattle.clip.specs.declared.Form.TheVariants as form
 
 -- little-endian: the n low bytes of v, the lowest first
 unfoldable pub bytes : ℕ → ℕ → List ℕ
@@ -12,24 +14,29 @@ unfoldable pub words : List ℕ → List ℕ
 words [] = []
 words (w ∷ ws) = bytes 4 w ++ words ws
 
--- 'header length H = 12 + 4C'
-abbrev pub header_length : ℕ → ℕ
-header_length channels = 12 + 4 * channels
+-- the bytes of the onset: 'a u32 onset before the offsets'; the old header has none
+abbrev pub onset_bytes : Form → ℕ
+onset_bytes form.Old = 0
+onset_bytes form.New = 4
+
+-- 'header length H = 12 + 4C'; 'the header becomes 16 + 4C bytes'
+abbrev pub header_length : Form → ℕ → ℕ
+header_length f channels = 12 + onset_bytes f + 4 * channels
 
 -- 'offset c is H + 4Nc': where channel c starts
-abbrev pub offset : ℕ → ℕ → ℕ → ℕ
-offset channels frames c = header_length channels + 4 * frames * c
+abbrev pub offset : Form → ℕ → ℕ → ℕ → ℕ
+offset f channels frames c = header_length f channels + 4 * frames * c
 
 -- the length of the file
-abbrev pub file_length : ℕ → ℕ → ℕ
-file_length channels frames = header_length channels + 4 * frames * channels
+abbrev pub file_length : Form → ℕ → ℕ → ℕ
+file_length f channels frames = header_length f channels + 4 * frames * channels
 
 -- 'at most 65,536'
 abbrev pub max_length : ℕ
 max_length = 65536
 
--- 'u16 header length H, u16 channel count C, u32 frames N, u32 rate as f32 bits, C u32 offsets. Then f32 frames'
-unfoldable pub layout : ℕ → ℕ → ℕ → List ℕ → List ℕ
-layout channels frames rate samples =
-    bytes 2 (header_length channels) ++ (bytes 2 channels ++ (bytes 4 frames ++ (bytes 4 rate
-    ++ (words (table channels (offset channels frames)) ++ words samples))))
+-- 'u16 header length H, u16 channel count C, u32 frames N, u32 rate as f32 bits', the onset, 'C u32 offsets. Then f32 frames'
+unfoldable pub layout : Form → ℕ → ℕ → ℕ → ℕ → List ℕ → List ℕ
+layout f channels frames rate onset samples =
+    bytes 2 (header_length f channels) ++ (bytes 2 channels ++ (bytes 4 frames ++ (bytes 4 rate
+    ++ (bytes (onset_bytes f) onset ++ (words (table channels (offset f channels frames)) ++ words samples)))))

@@ -1,14 +1,19 @@
--- What reading a clip file answers: 15 where the file is not the layout's, then 1, 2 (document 01, 'Clip file' and the table). Definitions only.
-use Rattle.std.specs.Prelude.{Bool, true, not, ◌&&◌, cond, List, ℕ, zero, suc, ◌+◌, ◌*◌, leb, eqb, length, get_or, drop}
+-- What reading a clip file answers: 15 where the file is not the layout's, then 1, 2 (document 01, 'Clip file' and the table); with the onset,
+-- which a new header has, 17 after them (document 02, 2.5). Definitions only.
+use Rattle.std.specs.Prelude.{Bool, true, not, ◌&&◌, cond, List, ℕ, zero, suc, ◌+◌, ◌*◌, leb, ltb, eqb, length, get_or, drop, Result, Ok, Err}
 use Rattle.std.specs.Float.{binary32}
 use Rattle.std.specs.Float.Ieee.{of_bits}
 use Rattle.lists.specs.Table.{table}
-use Rattle.buffer.specs.Limits.{valid_shape, valid_rate}
+use Rattle.buffer.specs.Limits.{valid_shape, valid_rate, Valid}
+use Rattle.buffer.specs.Answers.{after_checks}
 use Rattle.buffer.specs.declared.refusals.Refusal.TheVariants as refused
-use Rattle.clip.specs.Layout.{header_length, offset, file_length, max_length}
+use Rattle.buffer.specs.declared.Shape.{Shape}
+use Rattle.clip.specs.Layout.{onset_bytes, header_length, offset, file_length, max_length}
+use Rattle.clip.specs.declared.Form.{Form}
+use Rattle.clip.specs.declared.Form.TheVariants as form
 use Rattle.clip.specs.declared.ClipHeader.{ClipHeader}
+use Rattle.clip.specs.declared.WithOnset.{WithOnset}
 use Rattle.buffer.specs.declared.refusals.Refusal.{Refusal}
-use Rattle.std.specs.Prelude.{Result, Ok, Err}
 
 -- the number of n bytes, little-endian, at the start of a list; a byte past the end counts as 0
 unfoldable pub number : ℕ → List ℕ → ℕ
@@ -32,8 +37,12 @@ frames_field file = number_at 4 file 4
 abbrev pub rate_field : List ℕ → ℕ
 rate_field file = number_at 4 file 8
 
-abbrev pub offset_field : List ℕ → ℕ → ℕ
-offset_field file c = number_at 4 file (12 + 4 * c)
+-- 'an old one reading as onset 0': a number of no bytes is 0
+abbrev pub onset_field : Form → List ℕ → ℕ
+onset_field f file = number_at (onset_bytes f) file 12
+
+abbrev pub offset_field : Form → List ℕ → ℕ → ℕ
+offset_field f file c = number_at 4 file (12 + onset_bytes f + 4 * c)
 
 -- the frames, one channel after another
 abbrev pub frames_from : List ℕ → ℕ → ℕ → List ℕ
@@ -44,32 +53,63 @@ unfoldable pub each : ℕ → (ℕ → Bool) → Bool
 each zero f = true
 each (suc n) f = each n f && f n
 
-unfoldable pub offsets_match : List ℕ → ℕ → ℕ → Bool
-offsets_match file channels frames = each channels (λ c. eqb (offset_field file c) (offset channels frames c))
+unfoldable pub offsets_match : Form → List ℕ → ℕ → ℕ → Bool
+offsets_match f file channels frames = each channels (λ c. eqb (offset_field f file c) (offset f channels frames c))
 
 -- header, offsets and length as the layout has them
-unfoldable pub is_layout : List ℕ → Bool
-is_layout file =
+unfoldable pub is_layout : Form → List ℕ → Bool
+is_layout f file =
     let channels = channels_field file in
     let frames = frames_field file in
     leb 12 (length file) && (leb (length file) max_length
-    && (eqb (length_field file) (header_length channels) && (leb 1 frames
-    && (eqb (length file) (file_length channels frames) && offsets_match file channels frames))))
+    && (eqb (length_field file) (header_length f channels) && (leb 1 frames
+    && (eqb (length file) (file_length f channels frames) && offsets_match f file channels frames))))
 
 -- what the header of a file says
-abbrev pub header_of : List ℕ → ClipHeader
-header_of file = record {
+abbrev pub header_of : Form → List ℕ → ClipHeader
+header_of f file = record {
   shape = record { channels = channels_field file; frames = frames_field file; rate = of_bits binary32 (rate_field file) };
   rate_bits = rate_field file;
-  start = header_length (channels_field file);
+  start = header_length f (channels_field file);
 }
+
+-- ---- the old reader, which knows the old header alone
 
 unfoldable pub clip_read : List ℕ → Result ClipHeader Refusal
 clip_read file =
-    cond (not (is_layout file)) (Err refused.Layout)
+    cond (not (is_layout form.Old file)) (Err refused.Layout)
     (cond (not (valid_shape (channels_field file) (frames_field file) (channels_field file * frames_field file))) (Err refused.Shape)
     (cond (not (valid_rate (of_bits binary32 (rate_field file)))) (Err refused.Rate)
-    (Ok (header_of file))))
+    (Ok (header_of form.Old file))))
+
+-- ---- the new reader, which takes both headers
+
+-- '17 if the onset is not below the frames, after 15, 1 and 2': a clip's checks, of the reader and of the writer
+unfoldable pub clip_checks : Bool → Shape → ℕ → ℕ → Result Unit Refusal
+clip_checks laid_out shape len onset =
+    cond (not laid_out) (Err refused.Layout)
+    (cond (not (valid_shape shape.channels shape.frames len)) (Err refused.Shape)
+    (cond (not (valid_rate shape.rate)) (Err refused.Rate)
+    (cond (not (ltb onset shape.frames)) (Err refused.Onset)
+    (Ok tt))))
+
+-- which header a file has, by the header's length
+abbrev pub form_of : List ℕ → Form
+form_of file = cond (eqb (length_field file) (header_length form.New (channels_field file))) form.New form.Old
+
+-- a clip by the header of one form
+unfoldable pub read_as : Form → List ℕ → Result WithOnset Refusal
+read_as f file =
+    let header = header_of f file in
+    after_checks (clip_checks (is_layout f file) header.shape (header.shape.channels * header.shape.frames) (onset_field f file))
+    (record { header = header; onset = onset_field f file })
+
+abbrev pub read_with_onset : List ℕ → Result WithOnset Refusal
+read_with_onset file = read_as (form_of file) file
+
+-- what is known of an accepted header
+abbrev pub ValidHeader : WithOnset → Type 0
+ValidHeader read = Valid read.header.shape.channels read.header.shape.frames (read.header.shape.channels * read.header.shape.frames)
 
 -- ---- reading the frames into a lent slice of the length n
 
@@ -85,3 +125,12 @@ frames_read file n = room_checked (clip_read file) n
 unfoldable pub frames_out : Result ClipHeader Refusal → List ℕ → List ℕ → List ℕ
 frames_out (Ok h) file out = frames_from file h.start (length out)
 frames_out (Err refusal) file out = out
+
+-- the new reader's header without its onset
+abbrev pub header_read : Result WithOnset Refusal → Result ClipHeader Refusal
+header_read (Ok w) = Ok w.header
+header_read (Err refusal) = Err refusal
+
+-- the frames of a clip with either header
+abbrev pub frames_read_with_onset : List ℕ → ℕ → Result ClipHeader Refusal
+frames_read_with_onset file n = room_checked (header_read (read_with_onset file)) n

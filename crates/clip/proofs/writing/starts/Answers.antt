@@ -2,7 +2,7 @@
 use Rattle.std.proofs.Common.{arith}
 use Rattle.std.proofs.lemmas.List.{length-replicate}
 use Rattle.lists.specs.Table.{filled_end}
-use Rattle.clip.proofs.bytes_at.Goals as goal
+use Rattle.clip.proofs.writing.starts.Goals as goal
 
 pub returns : goal.returns
-returns g c = rw length-replicate at (filled_end _ _ _ _ c.loop-i.invariant (simp length-replicate (omega arith)))
+returns c = rw length-replicate at (filled_end _ _ _ _ c.loop-c.invariant (simp length-replicate (omega arith)))
