@@ -1,12 +1,12 @@
-// Plays the clip of clip.bin as the lines of standard input say. What the lines do and print is
-// said in the crates `obeying` and `session`; here it is read and written.
+// Plays the clip of clip.bin as the lines of standard input say. What a file's bytes give is said
+// in the crate `loading`, what the lines do and print in `obeying` and `session`; here it is read
+// and written.
 #![tactic(auto)]
 
 ghost use Rattle.std.specs.Prelude.{◌≡◌, ◌≤◌, length, IfSome};
 
 use buffer::Refusal;
 use obeying::Session;
-use player::Player;
 use session::State;
 use std::io::Read;
 use std::rt::Files;
@@ -68,18 +68,6 @@ fn refuse(rt: &impl Print, refusal: Refusal) -> io::Result<()> {
     }
 }
 
-// Reads the clip of a file's bytes: the player that it is given has the clip's rate, and its
-// samples stand beside it. An accepted file ends with them, four bytes each.
-fn load<'a>(file: &[u8], samples: &'a mut [u32]) -> Result<(Player, &'a [u32]), Refusal> {
-    let start = clip::read_clip(file)?.start;
-    let count = file.len().saturating_sub(start) / 4;
-    let samples = samples.get_mut(..count).ok_or(Refusal::Layout)?;
-    let shape = clip::read_frames(file, samples)?.shape;
-    let fresh = Player::new(shape.rate)?;
-    let player = fresh.set_buffer(shape.channels, shape.frames, shape.rate, samples)?;
-    Ok((player, samples))
-}
-
 // Reads until `bytes` is full, the file ends or a read fails, and returns how many bytes it read.
 // A `for` would count the reads, and not what each gave. Beside replay's `read_full`, since here
 // a clip is what was read before a read fails, and there the program ends with that error.
@@ -111,11 +99,11 @@ fn main(rt: HostRuntime) -> io::Result<()> {
     let Some(n) = read_clip(&rt, &mut file) else {
         return refuse(&rt, Refusal::Layout);
     };
-    match load(&file[..n], &mut samples) {
-        Ok((player, samples)) => {
+    match loading::load(&file[..n], &mut samples) {
+        Ok((player, count)) => {
             let session = Session { player, number: 0 };
             let state = State { session, len: 0 };
-            run(&rt, &mut rt.stdin(), state, samples)
+            run(&rt, &mut rt.stdin(), state, &samples[..count])
         }
         Err(refusal) => refuse(&rt, refusal),
     }

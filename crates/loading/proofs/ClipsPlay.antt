@@ -1,0 +1,35 @@
+-- An accepted clip is refused by no later step, and its onset moves no sample. Assumes nothing.
+use mathlib.Core.Path.{◌≡◌, refl}
+use mathlib.Core.List.{List}
+use Prim.Native.Nat.{ℕ, ◌≤◌, ◌<◌}
+use native.Mathlib.Omega.{arith}
+use borrow.Author.Tests.{le-ltb, ne_eqb, ltb-true}
+use Rattle.std.specs.Prelude.{Ok}
+use Rattle.player.specs.Record.{fresh, given}
+use Rattle.player.specs.Messages.{made, buffered, clamped}
+use Rattle.clip.specs.Reading.{form_of, read_with_onset}
+use Rattle.clip.specs.Statement.{frames_of}
+use Rattle.clip.specs.Passed.{read_passes}
+use Rattle.clip.specs.declared.WithOnset.{WithOnset}
+use Rattle.loading.specs.Loading.{count_of, loaded, samples_out}
+use Rattle.loading.specs.Statement.{ClipsPlay}
+
+sent : (file : List ℕ) (read : WithOnset) (room : ℕ) → read_with_onset file ≡ Ok read → count_of read.header.shape ≤ room
+    → loaded file room ≡ Ok (clamped (given (fresh read.header.shape.rate) read.header.shape), count_of read.header.shape)
+unfolding made buffered fresh
+sent file read room e fits =
+    let shape = read.header.shape in
+    let p = read_passes (form_of file) file read e in
+    let below : read.onset < shape.frames = ltb-true _ _ p.below in
+    rw (e, le-ltb _ _ fits, p.rate_fits, p.shape_fits, p.rate_fits, ne_eqb shape.frames 0 (λ none. omega (arith, below, none))) refl
+
+onset_moves_nothing : (file other : List ℕ) (read same : WithOnset) (samples : List ℕ) (room : ℕ)
+    → read_with_onset file ≡ Ok read → read_with_onset other ≡ Ok same
+    → read.header.shape ≡ same.header.shape → frames_of file read.header ≡ frames_of other same.header
+    → (loaded file room ≡ loaded other room) × (samples_out (loaded file room) file samples ≡ samples_out (loaded other room) other samples)
+onset_moves_nothing file other read same samples room e f shape frames =
+    let one : loaded file room ≡ loaded other room = rw (e, f, shape) refl in
+    (one, rw (one, e, f, frames) refl)
+
+pub clips_play : ClipsPlay
+clips_play = record { sent = sent; onset_moves_nothing = onset_moves_nothing }

@@ -1,0 +1,3 @@
+-- The laws that `load` cites.
+mod Frames
+mod ClipsPlay

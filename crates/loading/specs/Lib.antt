@@ -1,0 +1,3 @@
+-- What `trial` starts with: the player that a clip file was sent to.
+pub mod Loading
+pub mod Statement

@@ -1,0 +1,34 @@
+// A clip file given to a player, for the program `trial`.
+#![tactic(auto)]
+
+ghost use Rattle.std.specs.Prelude.{◌≡◌, ◌≤◌, length, IfOk};
+ghost use Rattle.loading.specs.Loading.{loaded, samples_out};
+ghost use Rattle.loading.specs.Statement.{ClipsPlay};
+
+use buffer::Refusal;
+use player::Player;
+
+// Reads the clip of a file's bytes as the new reader takes it: the player that it is given has the
+// clip's rate, and its samples, as many as are answered, stand at the front of `samples`.
+pub fn load(file: &[u8], samples: &mut [u32]) -> Result<(Player, usize), Refusal>
+    ensures answer { (result ≡ loaded file.now (length samples.old))
+        × (samples.new ≡ samples_out result file.now samples.old) }
+    ensures fits { IfOk result (λ answer. answer.1 ≤ length samples.old) }
+{
+    let shape = clip::read_clip_with_onset(file)?.header.shape;
+    let count = shape.channels * shape.frames;
+    if samples.len() < count {
+        return Err(Refusal::Length);
+    }
+    let fresh = Player::new(shape.rate)?;
+    let samples = &mut samples[..count];
+    let player = fresh.set_buffer(shape.channels, shape.frames, shape.rate, samples)?;
+    clip::read_frames_with_onset(file, samples)?;
+    Ok((player, count))
+}
+
+// A clip that the new reader accepts is sent to its player, and its onset moves no sample.
+#[tactic(auto, using(crate::proofs::ClipsPlay::clips_play))]
+pub fn clips_play()
+    ensures { ClipsPlay }
+{}
