@@ -59,8 +59,9 @@ enum {
     NETTHIMBLE_EMPTY = 12,   /* a buffer of no frames */
     NETTHIMBLE_TIME = 13,    /* block: the time is not finite, negative, over 2^30, or not above the last accepted block's */
     NETTHIMBLE_SPEED = 14,   /* block: the rate is not finite; the factor is NaN or outside 2^-64..2^64 */
-    NETTHIMBLE_LAYOUT = 15,  /* clip: header, offsets or length differ from the layout */
-    NETTHIMBLE_CENTS = 16    /* cents outside -12,000..12,000 */
+    NETTHIMBLE_LAYOUT = 15,  /* clip: header, offsets or length differ from the layout; to be written: no frames, or a file over 65,536 bytes */
+    NETTHIMBLE_CENTS = 16,   /* cents outside -12,000..12,000 */
+    NETTHIMBLE_ONSET = 17    /* clip with an onset: the onset is not below the frames */
 };
 
 /* ---- the records */
@@ -126,6 +127,13 @@ typedef struct {
     uint32_t refusal;
 } netthimble_shaped;
 
+/* The shape of a clip, and the frame of its sound's onset. */
+typedef struct {
+    netthimble_shape shape;
+    uint32_t onset;
+    uint32_t refusal;
+} netthimble_shaped_with_onset;
+
 /* The shapes of the parts of a buffer. */
 typedef struct {
     netthimble_shape first;
@@ -133,11 +141,14 @@ typedef struct {
     uint32_t refusal;
 } netthimble_parts;
 
-/* The count of frames that a copy moved. */
+/* A count: of the frames that a copy moved, or of the bytes of a file. */
 typedef struct {
     size_t count;
     uint32_t refusal;
-} netthimble_copy;
+} netthimble_count;
+
+/* Its former name. */
+typedef netthimble_count netthimble_copy;
 
 #if defined(__cplusplus)
 #define NETTHIMBLE_HOLDS(name, fact) static_assert(fact, #name)
@@ -187,11 +198,16 @@ NETTHIMBLE_AT(factored, factor, factor, 0);
 NETTHIMBLE_AT(factored, refusal, refusal, 8);
 NETTHIMBLE_HOLDS(shaped_size, sizeof(netthimble_shaped) == 32);
 NETTHIMBLE_AT(shaped, refusal, refusal, 24);
+NETTHIMBLE_HOLDS(shaped_with_onset_size, sizeof(netthimble_shaped_with_onset) == 32);
+NETTHIMBLE_AT(shaped_with_onset, shape, shape, 0);
+NETTHIMBLE_AT(shaped_with_onset, onset, onset, 24);
+NETTHIMBLE_AT(shaped_with_onset, refusal, refusal, 28);
 NETTHIMBLE_HOLDS(parts_size, sizeof(netthimble_parts) == 56);
 NETTHIMBLE_AT(parts, rest, rest, 24);
 NETTHIMBLE_AT(parts, refusal, refusal, 48);
-NETTHIMBLE_HOLDS(copy_size, sizeof(netthimble_copy) == 16);
-NETTHIMBLE_AT(copy, refusal, refusal, 8);
+NETTHIMBLE_HOLDS(count_size, sizeof(netthimble_count) == 16);
+NETTHIMBLE_AT(count, count, count, 0);
+NETTHIMBLE_AT(count, refusal, refusal, 8);
 
 /* ---- the player */
 
@@ -243,24 +259,40 @@ netthimble_block netthimble_player_preview(const netthimble_player *player, uint
 /* The same of netthimble_player_process_cents. Refused: 8, 13, 16, 14, 1; `out` is then as it was. */
 netthimble_block netthimble_player_preview_cents(const netthimble_player *player, uint32_t *out, size_t out_len, const uint32_t *samples, size_t samples_len, double time, float rate, int32_t cents);
 
-/* ---- the clip file */
+/* ---- the clip file. There are two headers: the old one, of 12 + 4 x channels bytes, and the new one, of 16 + 4 x channels bytes, which has
+ * the onset, the frame that the sound begins at. The onset is information only: it moves no sample, and no player is handed it. */
 
-/* What a clip file's header says. Refused: 15, 1, 2. */
+/* The new reader, which takes both headers: what a clip file's header says. With the old one the onset is 0. Refused: 15, 1, 2, 17. */
+netthimble_shaped_with_onset netthimble_clip_with_onset(const uint8_t *file, size_t file_len);
+
+/* Stores the frames of a clip file, with either header, in `samples`, which is exactly channels x frames long. Returns the refusal's number,
+ * 0 for none. Refused: 15, 1, 2, 17, 8; `samples` is then untouched. */
+uint32_t netthimble_clip_frames_with_onset(const uint8_t *file, size_t file_len, uint32_t *samples, size_t samples_len);
+
+/* The old reader, which takes the old header alone, and refuses the new one with 15: what a clip file's header says. Refused: 15, 1, 2. */
 netthimble_shaped netthimble_clip_shape(const uint8_t *file, size_t file_len);
 
-/* Stores a clip file's frames in `samples`, which is exactly channels x frames long. Returns the refusal's number, 0 for none.
- * Refused: 15, 1, 2, 8; `samples` is then untouched. */
+/* Stores the frames of a clip file with the old header in `samples`, which is exactly channels x frames long. Returns the refusal's number,
+ * 0 for none. Refused: 15, 1, 2, 8; `samples` is then untouched. */
 uint32_t netthimble_clip_frames(const uint8_t *file, size_t file_len, uint32_t *samples, size_t samples_len);
+
+/* The bytes of the file, with the new header, that a clip of `samples_len` samples is written to: 16 + 4 x channels + 4 x frames x channels.
+ * Refused: 15 (no frames, or over 65,536 bytes), 1, 2, 17. */
+netthimble_count netthimble_clip_length(netthimble_shape shape, size_t samples_len, uint32_t onset);
+
+/* Writes a clip with its onset, and the new header, into `file`, which is exactly as long as netthimble_clip_length answers; the new reader
+ * reads the same shape, onset and frames from it. Returns the refusal's number, 0 for none. Refused: 15, 1, 2, 17, 8; `file` is then untouched. */
+uint32_t netthimble_clip_write(netthimble_shape shape, uint32_t onset, const uint32_t *samples, size_t samples_len, uint8_t *file, size_t file_len);
 
 /* ---- buffers */
 
 /* Copies frames of the channel `number`, from frame `offset` on, to the start of `destination`; answers how many: max(0, min(frames - offset,
  * destination_len)). The rest of `destination` is untouched. Refused: 1, 3; `destination` is then untouched. */
-netthimble_copy netthimble_copy_from_channel(size_t channels, size_t frames, const uint32_t *samples, size_t samples_len, uint32_t *destination, size_t destination_len, size_t number, size_t offset);
+netthimble_count netthimble_copy_from_channel(size_t channels, size_t frames, const uint32_t *samples, size_t samples_len, uint32_t *destination, size_t destination_len, size_t number, size_t offset);
 
 /* Copies the start of `source` into the channel `number`, from frame `offset` on; answers how many frames: max(0, min(frames - offset,
  * source_len)). All other samples are untouched. Refused: 1, 3; `samples` is then untouched. */
-netthimble_copy netthimble_copy_to_channel(size_t channels, size_t frames, uint32_t *samples, size_t samples_len, const uint32_t *source, size_t source_len, size_t number, size_t offset);
+netthimble_count netthimble_copy_to_channel(size_t channels, size_t frames, uint32_t *samples, size_t samples_len, const uint32_t *source, size_t source_len, size_t number, size_t offset);
 
 /* The shape of the buffer a of a_len samples, extended by b of b_len. Refused: 1, 2, 4, 7. */
 netthimble_shaped netthimble_extended_shape(netthimble_shape a, size_t a_len, netthimble_shape b, size_t b_len);

@@ -2,7 +2,7 @@
  *
  *     tools/build_library
  *     cc -Iinclude -o target/c/play examples/c/play.c target/c/libnetthimble.a -lm
- *     target/c/play examples/tone/clip.bin
+ *     target/c/play examples/tone/clip.bin       (or examples/onset/clip.bin, which has an onset)
  */
 #include <stdio.h>
 #include <stdlib.h>
@@ -21,15 +21,15 @@ int main(int count, char **words) {
     if (!netthimble_is_ieee()) return printf("not the default floating-point mode\n"), 1;
     FILE *stream = fopen(count > 1 ? words[1] : "examples/tone/clip.bin", "rb");
     size_t len = stream ? fread(file, 1, sizeof file, stream) : 0;
-    netthimble_shaped clip = netthimble_clip_shape(file, len);
+    netthimble_shaped_with_onset clip = netthimble_clip_with_onset(file, len);
     if (clip.refusal != 0) return refused("clip", clip.refusal);
 
     size_t samples_len = clip.shape.channels * clip.shape.frames;
     uint32_t *samples = (uint32_t *)malloc(4 * samples_len);
     if (samples == NULL) return 1;
-    uint32_t refusal = netthimble_clip_frames(file, len, samples, samples_len);
+    uint32_t refusal = netthimble_clip_frames_with_onset(file, len, samples, samples_len);
     if (refusal != 0) return refused("frames", refusal);
-    printf("clip: %zu channel(s) of %zu frames at %g\n", clip.shape.channels, clip.shape.frames, clip.shape.rate);
+    printf("clip: %zu channel(s) of %zu frames at %g, onset %u\n", clip.shape.channels, clip.shape.frames, clip.shape.rate, (unsigned)clip.onset);
 
     /* a player at the clip's rate, started at 0 and looped */
     netthimble_player player;

@@ -17,12 +17,17 @@ static void check(bool ok, const char *what, int line) {
     else printf("line %d: not so: %s\n", line, what), failed++;
 }
 
-/* `len` words, each set to `value`, up to a page that nobody may touch; never freed. */
-static uint32_t *lent(size_t len, uint32_t value) {
-    size_t page = 4096, room = (4 * len + page) / page * page;
+/* `size` bytes up to a page that nobody may touch; never freed. */
+static void *lent_room(size_t size) {
+    size_t page = 4096, room = (size + page) / page * page;
     char *at = (char *)mmap(NULL, room + page, PROT_READ | PROT_WRITE, MAP_PRIVATE | MAP_ANONYMOUS, -1, 0);
     if (at == MAP_FAILED || mprotect(at + room, page, PROT_NONE) != 0) exit(3);
-    uint32_t *words = (uint32_t *)(void *)(at + room - 4 * len);
+    return at + room - size;
+}
+
+/* `len` words there, each set to `value`. */
+static uint32_t *lent(size_t len, uint32_t value) {
+    uint32_t *words = (uint32_t *)lent_room(4 * len);
     for (size_t i = 0; i < len; i++) words[i] = value;
     return words;
 }
@@ -419,6 +424,202 @@ static void clips(void) {
     CHECK(netthimble_clip_frames(file, sizeof file, samples, 1) == 2);
 }
 
+/* ---- clips with an onset */
+
+static void put(uint8_t *at, size_t count, size_t value) {
+    for (size_t i = 0; i < count; i++) at[i] = (uint8_t)(value >> (8 * i));
+}
+
+/* The file's bytes by the words of documents 01 and 02, up to a page that nobody may touch: the old header, or the new one, which has the
+ * onset. Sample i is 0x7F800001 + i, the pattern of a NaN. */
+static uint8_t *clip_file(bool is_new, netthimble_shape s, uint32_t onset, size_t *len) {
+    size_t fields = is_new ? 16 : 12, header = fields + 4 * s.channels;
+    *len = header + 4 * s.frames * s.channels;
+    uint8_t *file = (uint8_t *)lent_room(*len);
+    put(file, 2, header);
+    put(file + 2, 2, s.channels);
+    put(file + 4, 4, s.frames);
+    put(file + 8, 4, netthimble_bits(s.rate));
+    if (is_new) put(file + 12, 4, onset);
+    for (size_t c = 0; c < s.channels; c++) put(file + fields + 4 * c, 4, header + 4 * s.frames * c);
+    for (size_t i = 0; i < s.channels * s.frames; i++) put(file + header + 4 * i, 4, 0x7F800001 + i);
+    return file;
+}
+
+static bool counted(const uint32_t *samples, size_t len) {
+    for (size_t i = 0; i < len; i++)
+        if (samples[i] != 0x7F800001 + i) return false;
+    return true;
+}
+
+static bool is_shape(netthimble_shape a, netthimble_shape b) {
+    return a.channels == b.channels && a.frames == b.frames && netthimble_bits(a.rate) == netthimble_bits(b.rate);
+}
+
+typedef void *(*reading)(void *, const uint8_t *, size_t);
+
+/* The bytes of the record that the reader with an onset writes, of an accepted clip and of a refused one. */
+static void onset_record(void) {
+    size_t field[] = {0, 8, 16, 24, 28}, size[] = {8, 8, 4, 4, 4}, len;
+    uint8_t *file = clip_file(true, shape(2, 3, 44100.0f), 2, &len);
+    reading read = (reading)(any)netthimble_clip_with_onset;
+    for (size_t cut = 0; cut < 2; cut++) {
+        netthimble_shaped_with_onset r;
+        memset(one, 0xAA, sizeof one);
+        memset(two, 0x55, sizeof two);
+        CHECK(read(one, file + cut, len - cut) == one && read(two, file + cut, len - cut) == two);
+        for (size_t i = 0; i < 5; i++) CHECK(written(field[i], size[i]));
+        for (size_t i = sizeof r; i < sizeof one; i++) CHECK(one[i] == 0xAA && two[i] == 0x55);
+        memcpy(&r, one, sizeof r);
+        CHECK(cut ? r.refusal == 15 && is_shape(r.shape, shape(0, 0, 0)) && r.onset == 0 : r.refusal == 0 && is_shape(r.shape, shape(2, 3, 44100.0f)) && r.onset == 2);
+    }
+}
+
+/* A file that is accepted: by the new reader with either header, by the old one with the old header alone. */
+static void accepted_clip(bool is_new, netthimble_shape s, uint32_t onset) {
+    size_t len, count = s.channels * s.frames;
+    uint8_t *file = clip_file(is_new, s, onset, &len);
+    uint32_t *samples = lent(count, 7), *others = lent(count, 7);
+    netthimble_shaped_with_onset r = netthimble_clip_with_onset(file, len);
+    netthimble_shaped old = netthimble_clip_shape(file, len);
+    CHECK(r.refusal == 0 && is_shape(r.shape, s) && r.onset == (is_new ? onset : 0));
+    CHECK(netthimble_clip_frames_with_onset(file, len, samples, count) == 0 && counted(samples, count));
+    CHECK(old.refusal == (is_new ? 15 : 0) && is_shape(old.shape, is_new ? shape(0, 0, 0) : s));
+    CHECK(netthimble_clip_frames(file, len, others, count) == old.refusal);
+    CHECK(is_new ? all(others, 0, count, 7) : counted(others, count));
+    uint32_t *longer = lent(count + 1, 7);
+    CHECK(netthimble_clip_frames_with_onset(file, len, longer, count + 1) == 8);
+    CHECK(netthimble_clip_frames_with_onset(file, len, longer + 2, count - 1) == 8);
+    CHECK(netthimble_clip_frames_with_onset(file, len, NULL, 0) == 8);
+    CHECK(all(longer, 0, count + 1, 7));
+}
+
+/* A file that both readers refuse: with the same number, but the old one refuses any header except its own with 15. The slice is of a wrong
+ * length, which is said last. */
+static void refused_clip(uint32_t number, const uint8_t *file, size_t len) {
+    uint32_t *samples = lent(3, 7);
+    netthimble_shaped_with_onset r = netthimble_clip_with_onset(file, len);
+    CHECK(r.refusal == number && is_shape(r.shape, shape(0, 0, 0)) && r.onset == 0);
+    CHECK(netthimble_clip_frames_with_onset(file, len, samples, 3) == number);
+    bool is_old = len >= 4 && file[0] + 256 * file[1] == 12 + 4 * (file[2] + 256 * file[3]);
+    CHECK(netthimble_clip_shape(file, len).refusal == (is_old ? number : 15));
+    CHECK(netthimble_clip_frames(file, len, samples, 3) == (is_old ? number : 15));
+    CHECK(all(samples, 0, 3, 7));
+}
+
+static void refused_shape(uint32_t number, bool is_new, netthimble_shape s, uint32_t onset) {
+    size_t len;
+    uint8_t *file = clip_file(is_new, s, onset, &len);
+    refused_clip(number, file, len);
+}
+
+static void clips_with_onset(void) {
+    size_t len;
+    for (int is_new = 0; is_new < 2; is_new++) {
+        accepted_clip(is_new, shape(1, 1, 48000.0f), 0);
+        accepted_clip(is_new, shape(2, 3, 3000.0f), 2);
+        accepted_clip(is_new, shape(32, 5, 768000.0f), 4);
+        accepted_clip(is_new, shape(1, is_new ? 16379 : 16380, 44100.0f), 16378);
+        uint8_t *file = clip_file(is_new, shape(2, 1, 48000.0f), 0, &len);
+        for (size_t cut = 1; cut <= len; cut++) {
+            refused_clip(15, file + cut, len - cut);
+            uint8_t *shorter = (uint8_t *)lent_room(len - cut);
+            memcpy(shorter, file, len - cut);
+            refused_clip(15, shorter, len - cut);
+        }
+        /* the order: 15, 1, 2, 17 */
+        refused_shape(15, is_new, shape(33, 0, NAN), 9);
+        refused_shape(15, is_new, shape(1, 16381, NAN), UINT32_MAX);
+        refused_shape(1, is_new, shape(33, 1, NAN), 9);
+        refused_shape(1, is_new, shape(0, 1, NAN), 9);
+        refused_shape(1, is_new, shape(0, UINT32_MAX, 48000.0f), 0);
+        refused_shape(2, is_new, shape(1, 1, NAN), 9);
+        refused_shape(2, is_new, shape(32, 1, 2999.9f), 1);
+        refused_shape(2, is_new, shape(2, 2, 768001.0f), UINT32_MAX);
+    }
+    refused_clip(15, NULL, 0);
+    refused_shape(17, true, shape(1, 1, 48000.0f), 1);
+    refused_shape(17, true, shape(2, 2, 48000.0f), 2);
+    refused_shape(17, true, shape(32, 5, 48000.0f), UINT32_MAX);
+}
+
+/* ---- writing clips */
+
+static uint32_t *counting(size_t len) {
+    uint32_t *samples = lent(len, 0);
+    for (size_t i = 0; i < len; i++) samples[i] = (uint32_t)(0x7F800001 + i);
+    return samples;
+}
+
+static bool sevens(const uint8_t *bytes, size_t len) {
+    for (size_t i = 0; i < len; i++)
+        if (bytes[i] != 7) return false;
+    return true;
+}
+
+/* A clip that is written: by the words' bytes, and to no byte more; with a slice of another length it is refused with 8. */
+static void written_clip(netthimble_shape s, uint32_t onset) {
+    size_t count = s.channels * s.frames, len;
+    uint8_t *expected = clip_file(true, s, onset, &len), *file = (uint8_t *)lent_room(len + 1);
+    uint32_t *samples = counting(count);
+    netthimble_count r = netthimble_clip_length(s, count, onset);
+    CHECK(r.refusal == 0 && r.count == len && len <= 65536);
+    memset(file, 7, len + 1);
+    CHECK(netthimble_clip_write(s, onset, samples, count, file, len + 1) == 8);
+    CHECK(netthimble_clip_write(s, onset, samples, count, file + 2, len - 1) == 8);
+    CHECK(netthimble_clip_write(s, onset, samples, count, NULL, 0) == 8);
+    CHECK(sevens(file, len + 1));
+    CHECK(netthimble_clip_write(s, onset, samples, count, file + 1, len) == 0);
+    CHECK(file[0] == 7 && memcmp(file + 1, expected, len) == 0 && counted(samples, count));
+    netthimble_shaped_with_onset read = netthimble_clip_with_onset(file + 1, len);
+    CHECK(read.refusal == 0 && is_shape(read.shape, s) && read.onset == onset);
+    memset(samples, 0, 4 * count);
+    CHECK(netthimble_clip_frames_with_onset(file + 1, len, samples, count) == 0 && counted(samples, count));
+}
+
+/* One that is not: neither has a length, nor is written to a file of any, and 8 is said last. */
+static void unwritten_clip(uint32_t number, netthimble_shape s, size_t len, uint32_t onset) {
+    uint32_t *samples = counting(len);
+    uint8_t *file = (uint8_t *)lent_room(64);
+    netthimble_count r = netthimble_clip_length(s, len, onset);
+    CHECK(r.refusal == number && r.count == 0);
+    memset(file, 7, 64);
+    for (size_t room = 0; room <= 64; room += 8) CHECK(netthimble_clip_write(s, onset, samples, len, file + 64 - room, room) == number);
+    CHECK(sevens(file, 64));
+}
+
+static void written_clips(void) {
+    written_clip(shape(1, 1, 48000.0f), 0);
+    written_clip(shape(2, 3, 3000.0f), 2);
+    written_clip(shape(32, 5, 768000.0f), 0);
+    written_clip(shape(1, 16379, 44100.0f), 16378); /* 65,536 bytes */
+    written_clip(shape(32, 510, 44100.0f), 256);
+    /* 15: no frames, or a file over 65,536 bytes, however large the numbers are */
+    size_t huge[] = {65536, (size_t)1 << 30, (size_t)1 << 32, (size_t)1 << 61, (size_t)1 << 62, (size_t)1 << 63, SIZE_MAX / 4, SIZE_MAX / 4 + 1, SIZE_MAX};
+    for (size_t i = 0; i < sizeof huge / sizeof *huge; i++) {
+        for (size_t k = 0; k < sizeof huge / sizeof *huge; k++) unwritten_clip(15, shape(huge[i], huge[k], NAN), 0, 9);
+        unwritten_clip(15, shape(huge[i], 1, 48000.0f), 0, 0);
+        unwritten_clip(15, shape(huge[i], 0, 48000.0f), 0, 0);
+        unwritten_clip(15, shape(1, huge[i], 48000.0f), 1, 0);
+        unwritten_clip(1, shape(0, huge[i], NAN), 0, 9);
+    }
+    unwritten_clip(15, shape(0, 0, NAN), 9, 9);
+    unwritten_clip(15, shape(1, 0, 48000.0f), 0, 0);
+    unwritten_clip(15, shape(1, 16380, NAN), 9, UINT32_MAX);
+    unwritten_clip(15, shape(32, 511, 48000.0f), 32 * 511, 0);
+    unwritten_clip(15, shape(8191, 1, 48000.0f), 8191, 0);
+    /* 1, 2 and 17 */
+    unwritten_clip(1, shape(8190, 1, 48000.0f), 8190, 0);
+    unwritten_clip(1, shape(0, 1, NAN), 0, 9);
+    unwritten_clip(1, shape(33, 1, NAN), 33, 9);
+    unwritten_clip(1, shape(2, 3, NAN), 5, 9);
+    unwritten_clip(1, shape(2, 3, 48000.0f), 7, 0);
+    float bad[] = {NAN, 2999.9f, 768001.0f, -48000.0f, 0.0f, INFINITY, -INFINITY};
+    for (size_t i = 0; i < sizeof bad / sizeof *bad; i++) unwritten_clip(2, shape(1, 2, bad[i]), 2, (uint32_t)i);
+    unwritten_clip(17, shape(1, 2, 48000.0f), 2, 2);
+    unwritten_clip(17, shape(32, 5, 48000.0f), 160, UINT32_MAX);
+}
+
 static void copies(void) {
     uint32_t *samples = lent(8, 0), *some = lent(3, 9);
     for (uint32_t i = 0; i < 8; i++) samples[i] = i;
@@ -504,6 +705,9 @@ int main(void) {
     previews();
     refused_previews();
     clips();
+    onset_record();
+    clips_with_onset();
+    written_clips();
     copies();
     buffers();
     printf("cases: %d passed, %d failed\n", passed, failed);

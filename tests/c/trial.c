@@ -25,12 +25,12 @@ int main(void) {
     size_t file_len = 0, len, number = 0;
     FILE *stream = fopen("clip.bin", "rb");
     char *file = stream ? read_all(stream, &file_len) : NULL;
-    netthimble_shaped clip = netthimble_clip_shape((const uint8_t *)file, file_len);
+    netthimble_shaped_with_onset clip = netthimble_clip_with_onset((const uint8_t *)file, file_len);
     size_t samples_len = clip.shape.channels * clip.shape.frames;
     uint32_t *samples = words_of(samples_len, 0);
     netthimble_player p;
     uint32_t refusal = clip.refusal;
-    if (refusal == 0) refusal = netthimble_clip_frames((const uint8_t *)file, file_len, samples, samples_len);
+    if (refusal == 0) refusal = netthimble_clip_frames_with_onset((const uint8_t *)file, file_len, samples, samples_len);
     if (refusal == 0) refusal = netthimble_player_new(&p, clip.shape.rate);
     if (refusal == 0) refusal = netthimble_player_set_buffer(&p, clip.shape.channels, clip.shape.frames, clip.shape.rate, samples, samples_len);
     if (refusal != 0) return printf("X %" PRIu32 "\n", refusal) < 0;

@@ -6,25 +6,32 @@ use Rattle.buffer.specs.Refusals.{number}
 use Rattle.buffer.specs.declared.refusals.Refusal.{Refusal}
 use Rattle.buffer.specs.declared.Shape.{Shape}
 use Rattle.clip.specs.declared.ClipHeader.{ClipHeader}
+use Rattle.clip.specs.declared.WithOnset.{WithOnset}
 use Rattle.lent.specs.Nobody.{no_shape}
 use Rattle.netthimble.specs.declared.Shaped.{Shaped}
 use Rattle.netthimble.specs.declared.Parts.{Parts}
-use Rattle.netthimble.specs.declared.Copy.{Copy}
+use Rattle.netthimble.specs.declared.Count.{Count}
+use Rattle.netthimble.specs.declared.ShapedWithOnset.{ShapedWithOnset}
 
 -- reading a clip's header: its shape
 abbrev pub clip_for : Result ClipHeader Refusal → Shaped
 clip_for (Ok h) = record { shape = h.shape; refusal = 0 }
 clip_for (Err refused) = record { shape = no_shape; refusal = number refused }
 
--- reading a clip's frames: the refusal's number, 0 for none
-abbrev pub frames_for : Result ClipHeader Refusal → ℕ
-frames_for (Ok h) = 0
-frames_for (Err refused) = number refused
+-- reading it with the onset
+abbrev pub onset_for : Result WithOnset Refusal → ShapedWithOnset
+onset_for (Ok read) = record { shape = read.header.shape; onset = read.onset; refusal = 0 }
+onset_for (Err refused) = record { shape = no_shape; onset = 0; refusal = number refused }
 
--- a copy: the count of frames
-abbrev pub copy_for : Result ℕ Refusal → Copy
-copy_for (Ok n) = record { count = n; refusal = 0 }
-copy_for (Err refused) = record { count = 0; refusal = number refused }
+-- reading a clip's frames, and writing a clip: the refusal's number, 0 for none
+abbrev pub refusal_for : {A : Type 0} → Result A Refusal → ℕ
+refusal_for (Ok values) = 0
+refusal_for (Err refused) = number refused
+
+-- a count: the frames that a copy moved, or the bytes of a file
+abbrev pub count_for : Result ℕ Refusal → Count
+count_for (Ok n) = record { count = n; refusal = 0 }
+count_for (Err refused) = record { count = 0; refusal = number refused }
 
 -- extend and convert: the result's shape
 abbrev pub made_for : Result Shape Refusal → Shaped

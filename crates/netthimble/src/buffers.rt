@@ -7,9 +7,9 @@ ghost use Rattle.reshape.specs.Fitting.{fitted};
 ghost use Rattle.reshape.specs.Joining.{extended_shape, joined};
 ghost use Rattle.reshape.specs.Parting.{split_shapes, both_fitted, first_part, rest_part};
 ghost use Rattle.reshape.specs.Converting.{converted_shape, converted_samples};
-ghost use Rattle.netthimble.specs.ForC.{copy_for, made_for, parted_for};
+ghost use Rattle.netthimble.specs.ForC.{count_for, made_for, parted_for};
 
-use super::{Copy, Parts, Shaped};
+use super::{Count, Parts, Shaped};
 use buffer::Shape;
 
 // Copies the frames of the channel `number` from `offset` on into `destination`.
@@ -21,8 +21,8 @@ pub extern "C" fn netthimble_copy_from_channel(
     destination: &mut [u32],
     number: usize,
     offset: usize,
-) -> Copy
-    ensures { (result ≡ copy_for (copied channels frames (length samples.now) number offset (length destination.old)))
+) -> Count
+    ensures { (result ≡ count_for (copied channels frames (length samples.now) number offset (length destination.old)))
         × (destination.new
         ≡ copied_out (answer_of (copied channels frames (length samples.now) number offset (length destination.old)))
         (channel samples.now frames number) offset destination.old) }
@@ -46,8 +46,8 @@ pub extern "C" fn netthimble_copy_to_channel(
     source: &[u32],
     number: usize,
     offset: usize,
-) -> Copy
-    ensures { (result ≡ copy_for (copied channels frames (length samples.old) number offset (length source.now)))
+) -> Count
+    ensures { (result ≡ count_for (copied channels frames (length samples.old) number offset (length source.now)))
         × (samples.new ≡ copied_in (answer_of (copied channels frames (length samples.old) number offset (length source.now)))
         source.now (frames * number + offset) samples.old) }
 {

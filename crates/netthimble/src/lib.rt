@@ -8,6 +8,7 @@ mod clips;
 mod playing;
 
 use buffer::{Refusal, Shape};
+use clip::WithOnset;
 use lent::no_shape;
 pub use playing::{
     netthimble_player_process, netthimble_player_process_cents, netthimble_player_set_buffer,
@@ -33,6 +34,37 @@ impl From<Result<Shape, Refusal>> for Shaped {
             Ok(shape) => Self { shape, refusal: 0 },
             Err(refusal) => Self {
                 shape: no_shape(),
+                refusal: refusal.number(),
+            },
+        }
+    }
+}
+
+// The shape of a clip, and the frame of the sound's onset.
+#[repr(C)]
+#[derive(Clone, Copy)]
+pub struct ShapedWithOnset {
+    pub shape: Shape,
+    pub onset: u32,
+    pub refusal: u32,
+}
+
+impl From<Result<WithOnset, Refusal>> for ShapedWithOnset {
+    ghost use Rattle.std.specs.Prelude.{◌≡◌};
+    ghost use Rattle.netthimble.specs.ForC.{onset_for};
+
+    ghost from_gives = { λ answer read. read ≡ onset_for answer };
+
+    fn from(answer: Result<WithOnset, Refusal>) -> Self {
+        match answer {
+            Ok(read) => Self {
+                shape: read.header.shape,
+                onset: read.onset,
+                refusal: 0,
+            },
+            Err(refusal) => Self {
+                shape: no_shape(),
+                onset: 0,
                 refusal: refusal.number(),
             },
         }
@@ -70,19 +102,19 @@ impl From<Result<(Shape, Shape), Refusal>> for Parts {
     }
 }
 
-// The count of frames that a copy moved.
+// A count: of the frames that a copy moved, or of the bytes of a file.
 #[repr(C)]
 #[derive(Clone, Copy)]
-pub struct Copy {
+pub struct Count {
     pub count: usize,
     pub refusal: u32,
 }
 
-impl From<Result<usize, Refusal>> for Copy {
+impl From<Result<usize, Refusal>> for Count {
     ghost use Rattle.std.specs.Prelude.{◌≡◌};
-    ghost use Rattle.netthimble.specs.ForC.{copy_for};
+    ghost use Rattle.netthimble.specs.ForC.{count_for};
 
-    ghost from_gives = { λ answer copy. copy ≡ copy_for answer };
+    ghost from_gives = { λ answer counted. counted ≡ count_for answer };
 
     fn from(answer: Result<usize, Refusal>) -> Self {
         match answer {
