@@ -24,7 +24,7 @@ clip = netthimble.load(TOP / "examples/tone/clip.bin")
 player = netthimble.Player(clip.rate)
 player.set_clip(clip)
 player.start()
-for n in range(4):  # the tone has 300 frames: two blocks are full, the third is part silence, and and the fourth is silence
+for n in range(4):  # the tone has 300 frames: two blocks are full, the third is part silence, and the fourth is silence
     time = netthimble.FRAMES * n / clip.rate
     coming = player.preview(time)
     meters = (f"channel {c} peak {peak:7.2f} dB, rms {rms:7.2f} dB" for c, (peak, rms) in enumerate(map(levels, coming.samples)))

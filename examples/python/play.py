@@ -1,4 +1,4 @@
-"""Plays the shipped tone block by block and prints where each block ended. First: tools/build_library
+"""Plays the shipped tone, or the clip file that is named, block by block and prints where each block ended. First: tools/build_library
 A script elsewhere adds the folder `python` of this repository to PYTHONPATH instead of the first two lines below."""
 import sys
 from pathlib import Path
@@ -7,7 +7,9 @@ TOP = Path(__file__).resolve().parents[2]
 sys.path.insert(0, str(TOP / "python"))
 import netthimble  # noqa: E402
 
-clip = netthimble.load(TOP / "examples/tone/clip.bin")
+clip = netthimble.load(sys.argv[1] if len(sys.argv) > 1 else TOP / "examples/tone/clip.bin")
+if clip.onset:
+    print(f"the sound begins at frame {clip.onset}")
 player = netthimble.Player(clip.rate)
 player.set_clip(clip)
 player.start()  # at 0 seconds, from the clip's first frame

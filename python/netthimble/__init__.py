@@ -9,21 +9,28 @@
     player.block(0.01, cents=-50)  # the next block, a quarter tone lower
     player.preview(0.02)           # what the block at 0.02 would be; the player stays
     clip.convert(44100.0)          # the clip at another rate, its frames at the same instants
+    clip.onset                     # the frame that the sound begins at: information only, no player is handed it
+    netthimble.Clip.from_wav("sound.wav", onset=84).save("clip.bin")
 
-A call that the library refuses raises Refused, whose number is document 01's, and changes nothing.
+A call that the library refuses raises Refused, whose number is that of documents 01 and 02, and changes nothing.
 The library is target/c/libnetthimble.so of this repository, or the file that the environment variable NETTHIMBLE_LIBRARY names."""
 import ctypes
+import errno
 import operator
 import os
+import shutil
 from array import array
 from ctypes import POINTER, c_bool, c_double, c_float, c_int32, c_size_t, c_uint8, c_uint32
 from pathlib import Path
 
-__all__ = ["FRAMES", "NEVER", "Block", "Clip", "Player", "Refused", "factor", "load"]
+from . import wav as _wav
+
+__all__ = ["FRAMES", "NEVER", "Block", "Clip", "Player", "Refused", "factor", "load", "load_old"]
 
 FRAMES = 128  # frames of a block
 NEVER = 1.7976931348623157e308  # the largest double: a duration that is none
 _OUT = 32 * FRAMES
+_RELABEL = c_float(0.1).value  # a conversion to a rate as near as this changes the rate alone
 
 # document 01, 'Where a call is turned down'
 WORDS = {
@@ -41,17 +48,23 @@ WORDS = {
     12: "a clip of no frames",
     13: "a block's time that is not finite, negative, over 2^30, or not above the last accepted block's",
     14: "a rate that is not finite, or a factor that is NaN or outside 2^-64..2^64",
-    15: "a clip file whose header, offsets or length differ from the layout",
+    15: "a clip file whose header, offsets or length differ from the layout; to be written, a clip of no frames or of a file over 65,536 bytes",
     16: "cents outside -12,000..12,000",
+    17: "a clip's onset that is not below its frames",
 }
 
 
 class Refused(Exception):
-    """A call was turned down and changed nothing. `number` is that of document 01's table."""
+    """A call was turned down and changed nothing. `number` is that of document 01's table, with document 02's."""
 
     def __init__(self, call, number):
         super().__init__(f"{call}: refused with {number}: {WORDS.get(number, 'unknown')}")
         self.number = number
+
+
+def _check(call, refusal):
+    if refusal:
+        raise Refused(call, refusal)
 
 
 # ---- the records of include/netthimble.h. They stay inside this module: a record is made by the library alone.
@@ -93,6 +106,14 @@ class _Shaped(ctypes.Structure):
     _fields_ = [("shape", _Shape), ("refusal", c_uint32)]
 
 
+class _ShapedWithOnset(ctypes.Structure):
+    _fields_ = [("shape", _Shape), ("onset", c_uint32), ("refusal", c_uint32)]
+
+
+class _Count(ctypes.Structure):
+    _fields_ = [("count", c_size_t), ("refusal", c_uint32)]
+
+
 _WORDS, _BYTES = POINTER(c_uint32), POINTER(c_uint8)
 _CALLS = {
     "player_size": (c_size_t, []),
@@ -110,6 +131,10 @@ _CALLS = {
     "factor": (_Factor, [c_int32]),
     "clip_shape": (_Shaped, [_BYTES, c_size_t]),
     "clip_frames": (c_uint32, [_BYTES, c_size_t, _WORDS, c_size_t]),
+    "clip_with_onset": (_ShapedWithOnset, [_BYTES, c_size_t]),
+    "clip_frames_with_onset": (c_uint32, [_BYTES, c_size_t, _WORDS, c_size_t]),
+    "clip_length": (_Count, [_Shape, c_size_t, c_uint32]),
+    "clip_write": (c_uint32, [_Shape, c_uint32, _WORDS, c_size_t, _BYTES, c_size_t]),
     "converted_shape": (_Shaped, [_Shape, c_size_t, c_float]),
     "convert": (_Shaped, [_Shape, _WORDS, c_size_t, c_float, _WORDS, c_size_t]),
 }
@@ -163,37 +188,81 @@ def _cents(cents):
 
 def factor(cents):
     """The factor of whole cents, -12,000 to 12,000: entry (cents mod 1,200) of document 02's table over 2^30, times 2 to the whole octaves."""
+    _check_floats()
     r = _CALL["factor"](_cents(cents))
-    if r.refusal:
-        raise Refused("factor", r.refusal)
+    _check("factor", r.refusal)
     return r.factor
 
 
+def _moved(onset, source, target, frames):
+    """The frame of `frames` at the rate `target` that is nearest to the instant of the frame `onset` at the rate `source`; of two, the later one."""
+    n, d = target.as_integer_ratio()
+    m, e = source.as_integer_ratio()
+    top, bottom = onset * n * e, m * d
+    return min((2 * top + bottom) // (2 * bottom), frames - 1)
+
+
+def _replace(path, data):
+    """Writes a file. What stood at `path` stays until all of it is written; a link is followed, and a device or a pipe is written to as it is."""
+    path = Path(path)
+    if path.exists() and not path.is_file():
+        path.write_bytes(data)
+        return
+    target = Path(os.path.realpath(path))
+    if target.is_symlink():  # links in a circle
+        raise OSError(errno.ELOOP, os.strerror(errno.ELOOP), str(path))
+    stood = target.exists()
+    if stood:
+        open(target, "r+b").close()  # a file that may not be written is left
+    beside = target.with_name(f".clip-{os.urandom(8).hex()}")
+    try:
+        with open(beside, "xb") as out:
+            out.write(data)
+            out.flush()
+            os.fsync(out.fileno())
+        if stood:
+            shutil.copymode(target, beside)
+        os.replace(beside, target)
+    except BaseException:
+        beside.unlink(missing_ok=True)
+        raise
+
+
 class Clip:
-    """A sound: `channels` channels of `frames` frames at `rate`. Its samples are its own and never change."""
+    """A sound: `channels` channels of `frames` frames at `rate`, and `onset`, the frame that it begins at. Its samples are its own and never
+    change. The onset is information only."""
 
-    __slots__ = ("_shape", "_lent")
+    __slots__ = ("_shape", "_lent", "_onset")
 
-    def __init__(self, rate, channels):
+    def __init__(self, rate, channels, onset=0):
         """From a list of channels, each a sequence of floats (narrowed to f32) or an array('I') of f32 bit patterns."""
         rows = [_words(row if isinstance(row, array) and row.typecode in "fI" else array("f", row)) for row in channels]
         if len({len(row) for row in rows}) > 1:
             raise ValueError("the channels differ in length")
-        self._set(len(rows), len(rows[0]) if rows else 0, c_float(rate).value, b"".join(row.tobytes() for row in rows))
+        frames, onset = len(rows[0]) if rows else 0, int(operator.index(onset))
+        if onset != 0 and not 0 <= onset < frames:
+            raise Refused("clip", 17)
+        self._set(len(rows), frames, c_float(rate).value, b"".join(row.tobytes() for row in rows), onset)
 
-    def _set(self, channels, frames, rate, data):
-        self._shape, self._lent = (channels, frames, rate), (c_uint32 * (len(data) // 4)).from_buffer_copy(data)
+    def _set(self, channels, frames, rate, data, onset):
+        self._shape, self._lent, self._onset = (channels, frames, rate), (c_uint32 * (len(data) // 4)).from_buffer_copy(data), onset
 
     @classmethod
-    def _of(cls, shape, words):
-        """The clip of a shape that the library answered, and the words of its samples."""
+    def _of(cls, shape, words, onset):
+        """The clip of a shape that the library answered, the words of its samples, and its onset."""
         clip = cls.__new__(cls)
-        clip._set(shape.channels, shape.frames, shape.rate, bytes(words))
+        clip._set(shape.channels, shape.frames, shape.rate, bytes(words), onset)
         return clip
+
+    @classmethod
+    def from_wav(cls, path, onset=0):
+        """The sound of a WAV file of whole-number samples of 16, 24 or 32 bits; another file is a ValueError."""
+        return cls(*_wav.read(path), onset)
 
     channels = property(lambda self: self._shape[0])
     frames = property(lambda self: self._shape[1])
     rate = property(lambda self: self._shape[2])
+    onset = property(lambda self: self._onset, doc="The frame that the sound begins at.")
 
     def bits(self, channel):
         """The f32 bit patterns of a channel, as a copy."""
@@ -207,33 +276,60 @@ class Clip:
 
     def convert(self, rate):
         """A clip at another rate. Within 0.1 of its own the rate alone changes; else frame i is read at i x the own rate / `rate`, so it
-        stands at the same instant, between two frames weighted, and past the last one with its bits."""
+        stands at the same instant, between two frames weighted, and past the last one with its bits. The onset is the frame nearest to its
+        instant, or the last one."""
         _check_floats()
         source = _Shape(*self._shape)
         made = _CALL["converted_shape"](source, len(self._lent), rate)
         if not made.refusal:
             words = (c_uint32 * (made.shape.channels * made.shape.frames))()
             made = _CALL["convert"](source, self._lent, len(self._lent), rate, words, len(words))
-        if made.refusal:
-            raise Refused("convert", made.refusal)
-        return Clip._of(made.shape, words)
+        _check("convert", made.refusal)
+        if self.frames == 0 or abs(c_float(self.rate - made.shape.rate).value) <= _RELABEL:
+            return Clip._of(made.shape, words, self._onset)
+        return Clip._of(made.shape, words, _moved(self._onset, self.rate, made.shape.rate, made.shape.frames))
+
+    def to_bytes(self):
+        """The bytes of the clip file, with the new header."""
+        _check_floats()
+        shape = _Shape(*self._shape)
+        length = _CALL["clip_length"](shape, len(self._lent), self._onset)
+        _check("clip", length.refusal)
+        file = (c_uint8 * length.count)()
+        _check("clip", _CALL["clip_write"](shape, self._onset, self._lent, len(self._lent), file, len(file)))
+        return bytes(file)
+
+    def save(self, path):
+        """Writes the clip file, with the new header. A clip that is refused, and one that cannot be written, leaves what stood at `path`."""
+        _replace(path, self.to_bytes())
 
     def __repr__(self):
-        return f"<netthimble.Clip: {self.channels} channel(s) of {self.frames} frames at {self.rate:g}>"
+        onset = f", onset {self.onset}" if self.onset else ""
+        return f"<netthimble.Clip: {self.channels} channel(s) of {self.frames} frames at {self.rate:g}{onset}>"
+
+
+def _read(source, header, frames):
+    """What a clip file's header says, and the words of its frames, by two calls of the library."""
+    _check_floats()
+    data = bytes(source) if isinstance(source, (bytes, bytearray, memoryview)) else Path(source).read_bytes()
+    file = (c_uint8 * len(data)).from_buffer_copy(data)
+    read = _CALL[header](file, len(data))
+    _check("clip", read.refusal)
+    words = (c_uint32 * (read.shape.channels * read.shape.frames))()
+    _check("clip", _CALL[frames](file, len(data), words, len(words)))
+    return read, words
 
 
 def load(source):
-    """The clip of a clip file: its path, or its bytes."""
-    data = bytes(source) if isinstance(source, (bytes, bytearray, memoryview)) else Path(source).read_bytes()
-    file = (c_uint8 * len(data)).from_buffer_copy(data)
-    read = _CALL["clip_shape"](file, len(data))
-    if read.refusal:
-        raise Refused("clip", read.refusal)
-    words = (c_uint32 * (read.shape.channels * read.shape.frames))()
-    refusal = _CALL["clip_frames"](file, len(data), words, len(words))
-    if refusal:
-        raise Refused("clip", refusal)
-    return Clip._of(read.shape, words)
+    """The clip of a clip file, with the new header or the old one, whose onset is 0: the file's path, or its bytes."""
+    read, words = _read(source, "clip_with_onset", "clip_frames_with_onset")
+    return Clip._of(read.shape, words, read.onset)
+
+
+def load_old(source):
+    """The clip of a clip file with the old header, as readers that know no other take it: a new header is refused with 15."""
+    read, words = _read(source, "clip_shape", "clip_frames")
+    return Clip._of(read.shape, words, 0)
 
 
 class Block:
@@ -261,15 +357,13 @@ class Player:
     def __init__(self, rate):
         _check_floats()
         told = _CALL["new"](rate)
-        if told.refusal:
-            raise Refused("player", told.refusal)
+        _check("player", told.refusal)
         self._record, self._clip = told.player, None
 
     def _tell(self, call, *values):
         _check_floats()
         told = _CALL[call](self._record, *values)
-        if told.refusal:
-            raise Refused(call, told.refusal)
+        _check(call, told.refusal)
         self._record = told.player
 
     def set_clip(self, clip):
@@ -277,9 +371,7 @@ class Player:
         if not isinstance(clip, Clip):
             raise TypeError("set_clip takes a netthimble.Clip")
         _check_floats()
-        refusal = _CALL["player_set_buffer"](self._record, *clip._shape, clip._lent, len(clip._lent))
-        if refusal:
-            raise Refused("set_clip", refusal)
+        _check("set_clip", _CALL["player_set_buffer"](self._record, *clip._shape, clip._lent, len(clip._lent)))
         self._clip = clip
 
     def start(self, when=0.0, offset=0.0, duration=None):
@@ -313,8 +405,7 @@ class Player:
             r = _CALL[call](self._record, out, _OUT, lent, len(lent), time, rate, 1.0 if factor is None else factor)
         else:
             r = _CALL[call + "_cents"](self._record, out, _OUT, lent, len(lent), time, rate, _cents(cents))
-        if r.refusal:
-            raise Refused(word, r.refusal)
+        _check(word, r.refusal)
         data = memoryview(out).cast("B")
         bits = [_words(data[4 * FRAMES * c : 4 * FRAMES * (c + 1)]) for c in range(r.channels)]
         return Block(bits, bool(r.keep_alive), bool(r.ended), r.position)
