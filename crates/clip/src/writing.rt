@@ -1,15 +1,15 @@
 // Writing a clip file with its onset.
-ghost use Rattle.std.specs.Prelude.{◌≡◌, ◌+◌, ◌*◌, ◌<◌, ◌≤◌, ◌++◌, length, to_bits};
+ghost use Rattle.std.specs.Prelude.{◌≡◌, ◌+◌, ◌*◌, ◌≤◌, ◌++◌, length, to_bits};
 ghost use Rattle.std.specs.Float.{binary32};
 ghost use Rattle.lists.specs.Table.{table};
 ghost use Rattle.buffer.specs.Answers.{answer_of, stored};
-ghost use Rattle.clip.specs.Layout.{bytes, words, header_length, offset};
+ghost use Rattle.clip.specs.Layout.{bytes, words, offset};
 ghost use Rattle.clip.specs.declared.Form.TheVariants as form;
 ghost use Rattle.clip.specs.Writing.{is_file, length_to_write, clip_written, written};
 
+use super::MAX_LENGTH;
 use super::bytes::write_words;
 use super::reading::{check_clip, check_layout};
-use super::{Form, MAX_LENGTH};
 use buffer::{Refusal, Shape};
 use rounding::BinaryFloat;
 
