@@ -1,0 +1,82 @@
+-- The tape (document 02, 2.6): which frame of a clip each sample plays where the loop is switched between blocks. In whole numbers alone: it knows nothing
+-- of floats, of the player or of the clock. l is the number of the clip's frames, n that of a block's samples. Definitions only.
+use Rattle.std.specs.Prelude.{Bool, true, false, not, ◌&&◌, cond, List, [], ◌∷◌, ℕ, zero, suc, eqb, ltb, get_or, Option, None, Some}
+
+-- 'The tape has a number p', and notes a wrap
+pub record Head : Type 0 where
+  pub p : ℕ
+  pub wrap : Bool
+
+-- ---- a sample: 'below L, play frame p and add 1; else, looped, play frame 0, set p to 1 and note a wrap; else give zero and add 1'
+
+-- the frame that it plays; None is zero
+abbrev pub played : ℕ → Bool → ℕ → Option ℕ
+played l looped p = cond (ltb p l) (Some p) (cond looped (Some 0) None)
+
+abbrev pub after_sample : ℕ → Bool → Head → Head
+after_sample l looped h =
+    cond (ltb h.p l) (record { p = suc h.p; wrap = h.wrap })
+    (cond looped (record { p = 1; wrap = true })
+    (record { p = suc h.p; wrap = h.wrap }))
+
+-- before sample i of a block that begins with h
+unfoldable pub head_at : ℕ → Bool → Head → ℕ → Head
+head_at l looped h zero = h
+head_at l looped h (suc i) = after_sample l looped (head_at l looped h i)
+
+-- 'At a block's end, p = L with a wrap noted becomes 0; the note is cleared'
+abbrev pub at_end : ℕ → Head → Head
+at_end l h = record { p = cond (h.wrap && eqb h.p l) 0 h.p; wrap = false }
+
+-- ---- 'any list of blocks and loop messages': a step is one of them
+
+pub data Step : Type 0 where
+  loop_is : Bool → Step
+  a_block : Step
+
+pub record Tape : Type 0 where
+  pub looped : Bool
+  pub head : Head
+  -- the last block was an exact fit: 'an unlooped block finishes with p exactly L'
+  pub exact_fit : Bool
+  pub ended : Bool
+
+-- 'from 0', the loop off
+abbrev pub fresh : Tape
+fresh = record { looped = false; head = record { p = 0; wrap = false }; exact_fit = false; ended = false }
+
+-- 'An unlooped block that finishes with p above L ends the player'
+abbrev pub finished : ℕ → Bool → Head → Tape
+finished l looped h = record { looped = looped; head = h; exact_fit = not looped && eqb h.p l; ended = not looped && ltb l h.p }
+
+-- One step more. Once ended it stands still: its p is asked for no more.
+unfoldable pub stepped : ℕ → ℕ → Tape → Step → Tape
+stepped n l t (loop_is on) = record { looped = on; head = t.head; exact_fit = t.exact_fit; ended = t.ended }
+stepped n l t a_block = cond t.ended t (finished l t.looped (at_end l (head_at l t.looped t.head n)))
+
+unfoldable pub stepped_all : ℕ → ℕ → Tape → List Step → Tape
+stepped_all n l t [] = t
+stepped_all n l t (x ∷ xs) = stepped_all n l (stepped n l t x) xs
+
+-- ---- what a block gives: the tape before it is t
+-- 'Once ended, the tape gives zeros for good, loop messages or not'
+abbrev pub frame_at : ℕ → Tape → ℕ → Option ℕ
+frame_at l t i = cond t.ended None (played l t.looped (head_at l t.looped t.head i).p)
+
+-- in a channel: that frame's bits, or zero
+abbrev pub bits_of : List ℕ → Option ℕ → ℕ
+bits_of channel None = 0
+bits_of channel (Some k) = get_or channel k 0
+
+-- ---- the premise: after an exact fit, 'the list has no loop-on message between these two blocks', it and the next one
+-- a block is still to come
+unfoldable pub has_block : List Step → Bool
+has_block [] = false
+has_block (loop_is on ∷ xs) = has_block xs
+has_block (a_block ∷ xs) = true
+
+-- the loop stays off then, for a tape t and the steps to come
+unfoldable pub stays_off : ℕ → ℕ → Tape → List Step → Bool
+stays_off n l t [] = true
+stays_off n l t (loop_is on ∷ xs) = not (t.exact_fit && on && has_block xs) && stays_off n l (stepped n l t (loop_is on)) xs
+stays_off n l t (a_block ∷ xs) = stays_off n l (stepped n l t a_block) xs
