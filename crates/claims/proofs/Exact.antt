@@ -1,13 +1,19 @@
--- The exact position, block by block: looped, it goes on by n frames, or starts over as the block's last wrap says. Assumes nothing.
+-- The exact position, block by block: looped, it goes on by n frames, or starts over as the block's last wrap says; so does the tape. Assumes nothing.
 use mathlib.Core.Path.{◌≡◌, refl, sym, ap, ◌∙◌}
 use mathlib.Core.Logic.{◌⊎◌, inl, inr, ⊎_elim}
 use mathlib.Core.Bool.{Bool, true, false, ◌&&◌, ◌||◌, cond}
 use Prim.Native.Nat.{ℕ, zero, suc, ◌+◌, ◌*◌, ◌%◌, ◌≤◌, ◌<◌}
 use native.Mathlib.Nat.{le_of_lt, le_of_eq, lt_of_le_of_lt, eq-or-lt_of_le, mod-lt, mod_self, mod-eq_of_lt, mod-add-mod, mul-suc, mul-mod_right, mul-zero, zero-mod}
 use native.Mathlib.Omega.{arith}
+use Rattle.std.proofs.Math.Bool.{and-false}
 use borrow.Author.Tests.{ltb-true, ltb-false, le-ltb, eq-eqb, ne_eqb, eqb-true}
 use lib.Dec.{eqb, ltb}
+use Rattle.std.specs.Prelude.{Option, None, Some}
+use Rattle.aligned.specs.Aligned.{last_wrap}
+use Rattle.tape.specs.Tape.{Head, head_at, at_end}
+use Rattle.tape.proofs.Heads.{at, turning, end_noted}
 use Rattle.claims.specs.LongRun.{exact_frames}
+use Rattle.claims.proofs.Tape.{Ends, within, over, ends}
 
 -- whether remainder 0 counts as l
 abbrev counts : ℕ → ℕ → ℕ → Bool
@@ -70,11 +76,7 @@ module _ (n l : ℕ) (some : 0 < l) where
       odd x p q = omega arith
 
       test : counts n l (suc k) ≡ false
-      test = ap (λ (b : Bool). b || eqb l n && eqb (suc k % 2) 1) (le-ltb n l (le_of_eq e)) ∙ ap (λ (b : Bool). eqb l n && b) (ne_eqb (suc k % 2) 1 (odd (suc k) h)) ∙ both (eqb l n)
-        where
-          both : (b : Bool) → (b && false) ≡ false
-          both true = refl
-          both false = refl
+      test = ap (λ (b : Bool). b || eqb l n && eqb (suc k % 2) 1) (le-ltb n l (le_of_eq e)) ∙ ap (λ (b : Bool). eqb l n && b) (ne_eqb (suc k % 2) 1 (odd (suc k) h)) ∙ and-false (eqb l n)
 
   odd_end : (k : ℕ) → l ≡ n → k % 2 ≡ 1 → exact_frames n true l k ≡ l
   unfolding exact_frames
@@ -151,10 +153,6 @@ module _ (n l : ℕ) (some : 0 < l) where
           odd_next : (k : ℕ) → k % 2 ≡ 1 → suc k % 2 ≡ 1 → ⊥
           odd_next k p q = omega arith
 
-          and-false : (x : Bool) → (x && false) ≡ false
-          and-false true = refl
-          and-false false = refl
-
           test : l ≡ n → (k % 2 ≡ 0) ⊎ (k % 2 ≡ 1) → counts n l (suc k) ≡ false
           test same (inl even) = absurd (no (exact_frames n true l k) n l past same (even_start k same even))
           test same (inr odd) = ap (λ (x : Bool). x || eqb l n && eqb (suc k % 2) 1) t ∙ ap (λ (x : Bool). eqb l n && x) (ne_eqb (suc k % 2) 1 (odd_next k odd)) ∙ and-false (eqb l n)
@@ -165,3 +163,14 @@ module _ (n l : ℕ) (some : 0 < l) where
           keep : (x : Bool) → cond (x && false) l (n * suc k % l) ≡ n * suc k % l
           keep true = refl
           keep false = refl
+
+  -- ---- and so goes the tape's block
+  pub exact_next : (k : ℕ) → 0 < n → (at_end l (head_at l true (at (exact_frames n true l k) false) n)).p ≡ exact_frames n true l (suc k)
+  exact_next k N = go (last_wrap true l a n) (head_at l true (at a false) n) (ends l a n some (exact_le k)) (turning l (at a false) n some (exact_le k)).rest
+    where
+      a : ℕ
+      a = exact_frames n true l k
+
+      go : (w : Option ℕ) (h : Head) → Ends l a n w h → h.p % l ≡ (a + n) % l → (at_end l h).p ≡ exact_frames n true l (suc k)
+      go None h (within m) r = sym (exact_on k N m)
+      go (Some w) h (over v p W e B past) r = end_noted l (at p true) refl B ∙ sym (exact_over k p past (omega arith) (omega arith) B r)

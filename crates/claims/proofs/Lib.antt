@@ -7,6 +7,7 @@ pub mod Laws
 pub mod Tape
 pub mod Exact
 pub mod Step
+pub mod Unswitched
 pub mod Written
 pub mod Chain
 pub mod Opening
@@ -14,11 +15,14 @@ pub mod States
 pub mod Events
 pub mod Run
 pub mod Conclude
+pub mod Begin
 pub mod Whole
+pub mod Switched
 pub mod Longer
 pub mod Samples
 pub mod Unseen
 pub mod Instances
+pub mod SwitchInstances
 pub mod Known
 pub mod Conversions
 pub mod Multiples

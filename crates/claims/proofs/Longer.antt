@@ -20,6 +20,7 @@ use Rattle.cents.proofs.Same.{never, same_answer, same_output, refused}
 use Rattle.claims.specs.Calls.{Call, block, typed, all_typed, is_block, moved, next}
 use Rattle.claims.specs.Longer.{LongerCall, plain, in_cents, preview, preview_in_cents, typed_longer, all_typed_longer, Outcome, outcome, outcome_longer, outcomes, is_left_out, as_call, replaced, kept, InCents}
 use Rattle.claims.proofs.Whole.{long_run_lem}
+use Rattle.claims.proofs.Switched.{switched_lem}
 
 module _ (p : Player) (out samples : List ℕ) (time rate : Float) (cents : ℤ) where
   abbrev call : LongerCall
@@ -112,4 +113,5 @@ blocks_in_cents exact = record {
   at_zero = λ p out samples time rate.
       as_block p out samples time rate (pos 0) in_range ∙ ap (λ (factor : Float). outcome p (block out samples time rate factor)) exact.none;
   long_run = λ rate single valid calls typed. long_run_lem rate single valid _ (all_typed_lem exact.held _ calls typed);
+  loop_switch = λ rate single valid calls typed. switched_lem rate single valid _ (all_typed_lem exact.held _ calls typed);
 }

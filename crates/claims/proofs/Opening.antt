@@ -95,7 +95,7 @@ is_none : le none none ≡ true
 unfolding le lt eq of_bits
 is_none = refl
 
-keep_start : (d : Float) → lt d none ≡ false → clamped_start none d ≡ none
+pub keep_start : (d : Float) → lt d none ≡ false → clamped_start none d ≡ none
 unfolding clamped_start
 keep_start d h = simp (not-below, h)
 
@@ -103,7 +103,7 @@ either : (b : Bool) (d : Float) → cond b d d ≡ d
 either true d = refl
 either false d = refl
 
-keep_end : (d : Float) → clamped_end d d ≡ d
+pub keep_end : (d : Float) → clamped_end d d ≡ d
 unfolding clamped_end
 keep_end d = either (le d none || lt d d) d
 
@@ -205,7 +205,7 @@ receive_all a [] = a
 receive_all a (e ∷ es) = receive_all (receive a e.call) es
 
 -- the first of two lists is empty where their sum is
-front_none : {A : Type 0} (xs ys : List A) → xs ++ ys ≡ [] → xs ≡ []
+pub front_none : {A : Type 0} (xs ys : List A) → xs ++ ys ≡ [] → xs ≡ []
 front_none [] ys e = refl
 front_none (x ∷ xs) ys e = absurd (no_point x (xs ++ ys) e)
 

@@ -222,9 +222,6 @@ lt_asym x y h = let s = two x y (lt_numbers x y h) in s.yx.less ∙ le-ltb s.j s
 pub lt_not_le : (x y : Float) → lt x y ≡ true → le y x ≡ false
 lt_not_le x y h = let s = two x y (lt_numbers x y h) in s.yx.most ∙ lt-leb s.j s.i (ltb-true s.i s.j (sym s.xy.less ∙ h))
 
-pub le_not_lt : (x y : Float) → le x y ≡ true → lt y x ≡ false
-le_not_lt x y h = let s = two x y (le_numbers x y h) in s.yx.less ∙ le-ltb s.j s.i (leb-true s.i s.j (sym s.xy.most ∙ h))
-
 pub le_of_not_lt : (x y : Float) → finite x ≡ true → finite y ≡ true → lt x y ≡ false → le y x ≡ true
 le_of_not_lt x y p q h = let s = two x y (finite_number x p, finite_number y q) in s.yx.most ∙ le-leb s.j s.i (ltb-false s.i s.j (sym s.xy.less ∙ h))
 
@@ -236,12 +233,6 @@ eq_not_lt x y h =
     let s = two x y (eq_numbers x y h) in
     let e = eqb-true s.i s.j (sym s.xy.same ∙ h) in
     (s.xy.less ∙ le-ltb s.i s.j (le_of_eq (sym e)), s.yx.less ∙ le-ltb s.j s.i (le_of_eq e))
-
-pub lt_not_eq : (x y : Float) → lt x y ≡ true → (eq x y ≡ false) × (eq y x ≡ false)
-lt_not_eq x y h =
-    let s = two x y (lt_numbers x y h) in
-    let l = ltb-true s.i s.j (sym s.xy.less ∙ h) in
-    (s.xy.same ∙ ne_eqb s.i s.j (λ (e : s.i ≡ s.j). omega arith), s.yx.same ∙ ne_eqb s.j s.i (λ (e : s.j ≡ s.i). omega arith))
 
 pub eq_sym : (x y : Float) → eq x y ≡ true → eq y x ≡ true
 eq_sym x y h = let s = two x y (eq_numbers x y h) in s.yx.same ∙ eq-eqb s.j s.i (sym (eqb-true s.i s.j (sym s.xy.same ∙ h)))

@@ -10,20 +10,20 @@ use lib.Ieee.{Float, nan, inf, fin, binary64, add, mul, div, rem, lt, le, eq, ne
 use lib.Ieee.Fits.{div-fits, down_pos}
 use lib.Ieee.Order.{round_mono}
 use lib.Ieee.Positive.{first_pos}
-use lib.Ieee.Scale.{round_same, finite}
+use lib.Ieee.Scale.{round_same}
 use lib.Ieee.Exact.{HasValue}
 use Rattle.rounding.specs.Laws.{Within}
 use Rattle.rounding.proofs.Error.{RoundedAny}
 use Rattle.rounding.proofs.Operations.{Summed, add_is, div_at, div_near_any, mul_near_any, add_units}
 use Rattle.rounding.proofs.Exact.{whole_exact, round_same_float}
 use lib.Ieee.Back.{unsigned_back}
-use borrow.Author.Tests.{ltb-true, ne_eqb, lt-ltb, le-ltb}
+use borrow.Author.Tests.{ltb-true, ne_eqb, lt-ltb}
 use Rattle.rounding.proofs.Compare.{lt_at, le_at}
 use Rattle.rounding.proofs.Wholes.{away_value, cast_fits}
 use Rattle.aligned.specs.Aligned.{first_frame}
 use Rattle.claims.specs.LongRun.{Reports}
 use Rattle.claims.proofs.Order.{lt_asym, lt_not_le, lt-le, lt_irrefl, ne_irrefl, value_finite}
-use Rattle.claims.proofs.Units.{none_value, none_units, block_lasts, by_one, roughly, rate_pos, quotient_fine}
+use Rattle.claims.proofs.Units.{none_units, block_lasts, by_one, roughly, rate_pos, quotient_fine}
 use Rattle.buffer.specs.Limits.{duration}
 use Rattle.rounding.specs.Rounding.{whole}
 use Rattle.seconds.specs.Seconds.{none, never, one, block_seconds}
@@ -101,18 +101,12 @@ ordered E W R X Y i j a b small l h g = lt_of_mul-lt-mul_right R (omega (arith, 
 nothing : (R E W : ℕ) → Within (0 * E) (0 * R) (0 * W)
 nothing R E W = omega arith
 
-weaker : (E x y j k : ℕ) → j ≤ k → Within (j * E) x y → Within (k * E) x y
-weaker E x y j k l h = omega (arith, mul-le-mul_right E l)
-
 reported : (E C B x y j : ℕ) → j ≤ C → C * E ≤ B → Within (j * E) x y → Within B x y
 reported E C B x y j l b h = omega (arith, mul-le-mul_right E l)
 
--- ---- no frames, and a weaker bound
+-- ---- no frames
 pub frames_zero : (r : Float) (R : ℕ) → Frames r none R 0 0
 frames_zero r R = record { units = 0; value = none_units; near = nothing R (2 ^ 1195) (2 ^ 1223) }
-
-pub frames_weaken : (r x : Float) (R i j a : ℕ) → i ≤ j → Frames r x R i a → Frames r x R j a
-frames_weaken r x R i j a l h = record { units = h.units; value = h.value; near = weaker (2 ^ 1195) (h.units * R) (a * 2 ^ 1223) i j l h.near }
 
 -- ---- fewer frames are fewer seconds
 pub frames_below : (r x y : Float) (R i j a b : ℕ) → Frames r x R i a → Frames r y R j b → i + j < 268435456 → a < b
@@ -203,15 +197,6 @@ grown_fine x u C M U h m = omega (arith, mul-le-mul_right u m)
 
 pub elapsed_none : Elapsed none
 elapsed_none = record { units = 0; value = none_units; bound = lit≤ tt }
-
-pub elapsed_finite : (x : Float) → Elapsed x → finite x ≡ true
-elapsed_finite x h = value_finite x false h.units (2 ^ 1074) h.value
-
-pub elapsed_not_negative : (x : Float) → Elapsed x → lt x none ≡ false
-elapsed_not_negative x h = lt_at x none h.units (2 ^ 1074) 0 1 (lit< tt) (lit< tt) h.value none_value ∙ le-ltb (h.units * 1) (0 * 2 ^ 1074) (z≤ (h.units * 1))
-  where
-    z≤ : (n : ℕ) → 0 ≤ n
-    z≤ n = omega arith
 
 far : (x y z : ℕ) → x ≤ y → y < z → x * 1 < z
 far x y z h l = omega arith

@@ -1,14 +1,13 @@
--- The player from its first block on, by the few things that a block moves, and the plan of a block for it. Assumes nothing.
+-- The player from its first block on, by the few things that a block moves and a loop message switches, and the plan of a block for it. Assumes nothing.
 use mathlib.Core.Path.{◌≡◌, refl, sym, ap, ap₂, ◌∙◌, subst}
 use mathlib.Core.Logic.{◌⊎◌, inl, inr, ⊎_elim}
 use mathlib.Core.Bool.{Bool, true, false, not, ◌&&◌, ◌||◌, cond, true≢false}
 use mathlib.Core.List.{List}
-use Prim.Native.Nat.{ℕ, suc, ◌+◌, ◌*◌, ◌%◌, ◌^◌, ◌≤◌, ◌<◌}
+use Prim.Native.Nat.{ℕ, ◌+◌, ◌*◌, ◌^◌, ◌≤◌, ◌<◌}
 use native.Mathlib.Nat.{le_of_lt}
 use native.Mathlib.Omega.{arith}
 use borrow.Author.Tests.{ltb-true, ltb-false}
 use lib.Dec.{ltb}
-use lib.ListN.{get_or}
 use lib.Ieee.{Float, binary64, add, mul, lt, le, eq}
 use lib.Ieee.Exact.{HasValue}
 use Rattle.buffer.specs.Limits.{duration}
@@ -21,23 +20,40 @@ use Rattle.sub_sample.specs.declared.Playhead.{Playhead}
 use Rattle.buffer.specs.Channels.{channel}
 use Rattle.player.specs.Block.{Plan, silent, idle, start_at, is_aligned, has_ended, turns_over, aligned_plan, settings, first_head, sub_sample_plan, plan}
 use Rattle.player.specs.declared.Player.{Player}
-use Rattle.claims.specs.LongRun.{exact_frames, frame_bits}
+use Rattle.tape.specs.Tape as tape
+use Rattle.tape.specs.Tape.{Head, played, at_end, bits_of}
+use Rattle.tape.proofs.Heads.{at, straight, turning, end_below}
+use Rattle.claims.specs.Calls.{message, next}
 use Rattle.claims.proofs.Order as order
+use Rattle.claims.proofs.Opening.{keep_start, keep_end}
 use Rattle.claims.proofs.Position.{Elapsed, frames_duration, ratio_one, clip_itself, never_far, elapsed_under_never}
-use Rattle.claims.proofs.Exact.{exact_le}
 use Rattle.claims.proofs.Laws.{Time, closed, below, end_later, elapsed_more}
-use Rattle.claims.proofs.Step.{Place, on, position_on, plays_looped, plays_plain, or-zero, exact_plain}
+use Rattle.claims.proofs.Step.{Place, on, position_on, plays}
+use Rattle.player.specs.Messages.{clamped, on_loop, handled}
+use Rattle.player.specs.declared.ControlMessage.TheVariants.{Loop}
 
 -- what stays
 pub record Setup : Type 0 where
   pub rate : Float
   pub channels : ℕ
   pub frames : ℕ
-  pub looped : Bool
   pub stop : Float
 
--- what a block moves
+-- the ground that all blocks stand on: what stays, a rate of R units of binary32, the limits, and the samples that each block is lent
+pub record Ground : Type 0 where
+  pub setup : Setup
+  pub units : ℕ
+  pub value : HasValue setup.rate false units (2 ^ 149)
+  pub low : 3000 * 2 ^ 149 ≤ units
+  pub high : units ≤ 768000 * 2 ^ 149
+  pub long : 1 ≤ setup.frames
+  pub short : setup.frames ≤ 16777216
+  pub few : setup.channels ≤ 32
+  pub samples : List ℕ
+
+-- what a block moves, and a loop message switches
 pub record State : Type 0 where
+  pub looped : Bool
   pub has_start : Bool
   pub start : Float
   pub offset : Float
@@ -57,7 +73,7 @@ standing s x = record {
   stop_time = context s.stop;
   offset = in_clip x.offset;
   duration = in_clip never;
-  loop_state = loop_of s.looped none (duration s.frames s.rate);
+  loop_state = loop_of x.looped none (duration s.frames s.rate);
   render_state = render_of x.position x.started x.entered x.elapsed x.aligned x.ended;
   has_start = x.has_start;
   has_buffer = true;
@@ -68,7 +84,20 @@ standing s x = record {
 
 -- ---- an ended player
 abbrev pub silenced : State → Float → State
-silenced x t = record { has_start = x.has_start; start = x.start; offset = x.offset; position = x.position; elapsed = x.elapsed; started = x.started; entered = x.entered; aligned = x.aligned; ended = true; has_block = true; time = t }
+silenced x t = record {
+  looped = x.looped;
+  has_start = x.has_start;
+  start = x.start;
+  offset = x.offset;
+  position = x.position;
+  elapsed = x.elapsed;
+  started = x.started;
+  entered = x.entered;
+  aligned = x.aligned;
+  ended = true;
+  has_block = true;
+  time = t;
+}
 
 pub plan_ended : (s : Setup) (x : State) (t : Float) → x.ended ≡ true → plan 128 (standing s x) t one one ≡ silent (standing s (silenced x t)) false
 unfolding plan idle
@@ -101,13 +130,13 @@ start_at_lem x t h l n = ap (λ (b : Bool). eq (cond (not b && lt x.start t) t x
     go true e = time_same t h
     go false e = ⊎_elim (λ (b : lt x.start t ≡ true). absurd (true≢false (sym b ∙ e))) (λ (q : eq x.start t ≡ true). q) (order.le-lt-or-eq x.start t l)
 
--- ---- a player that goes on
-pub record Alive (s : Setup) (R k : ℕ) (x : State) : Type 0 where
+-- ---- a player that goes on: its position is p frames
+pub record Alive (s : Setup) (R p : ℕ) (x : State) : Type 0 where
   pub going : x.ended ≡ false
   pub ready : (x.aligned ≡ true) ⊎ ((x.started ≡ false) × (eq x.offset none ≡ true))
   pub elapsed : Elapsed x.elapsed
-  pub inside : exact_frames 128 s.looped s.frames k ≤ s.frames
-  pub place : Place s.rate R x.position (exact_frames 128 s.looped s.frames k)
+  pub inside : p ≤ s.frames
+  pub place : Place s.rate R x.position p
 
 -- ---- the kinds of block
 -- what three tests leave of four plans
@@ -117,10 +146,16 @@ third b c d p q u w e f g = simp (e, f, g)
 fourth : (b c d : Bool) (p q u w : Plan) → b ≡ false → c ≡ false → d ≡ false → cond b p (cond c q (cond d u w)) ≡ w
 fourth b c d p q u w e f g = simp (e, f, g)
 
-module _ (s : Setup) (R : ℕ) (v : HasValue s.rate false R (2 ^ 149)) (lo : 3000 * 2 ^ 149 ≤ R) (hi : R ≤ 768000 * 2 ^ 149) (L1 : 1 ≤ s.frames) (L2 : s.frames ≤ 16777216) where
-  module _ (k : ℕ) (x : State) (t : Float) (a : Alive s R k x) (h : Time t) (l : le x.start t ≡ true) where
+module _ (g : Ground) where
+  abbrev s : Setup
+  s = g.setup
+
+  abbrev R : ℕ
+  R = g.units
+
+  module _ (p : ℕ) (x : State) (t : Float) (a : Alive s R p x) (h : Time t) (l : le x.start t ≡ true) where
     not_late : le (block_end 128 t s.rate) x.start ≡ false
-    not_late = order.lt_not_le x.start (block_end 128 t s.rate) (order.le_lt_trans x.start t (block_end 128 t s.rate) l (end_later s.rate R v lo hi t h))
+    not_late = order.lt_not_le x.start (block_end 128 t s.rate) (order.le_lt_trans x.start t (block_end 128 t s.rate) l (end_later s.rate R g.value g.low g.high t h))
 
     aligned_first : (x.aligned || eq (begins x t) t && eq x.offset none) ≡ true
     aligned_first = go a.ready
@@ -135,9 +170,9 @@ module _ (s : Setup) (R : ℕ) (v : HasValue s.rate false R (2 ^ 149)) (lo : 300
 
     not_far : lt never (add binary64 x.position (block_seconds 128 s.rate)) ≡ false
     not_far =
-        let p = on s.rate R v lo hi s.frames L1 L2 x.position (exact_frames 128 s.looped s.frames k) a.place a.inside in
-        never_far s.rate R v lo hi (add binary64 x.position (block_seconds 128 s.rate)) p.steps (exact_frames 128 s.looped s.frames k + 128) p.near
-        (bound (exact_frames 128 s.looped s.frames k) s.frames a.inside L2) (steps p.steps (exact_frames 128 s.looped s.frames k) s.frames p.few a.inside L2)
+        let q = on s.rate R g.value g.low g.high s.frames g.long g.short x.position p a.place a.inside in
+        never_far s.rate R g.value g.low g.high (add binary64 x.position (block_seconds 128 s.rate)) q.steps (p + 128) q.near
+        (bound p s.frames a.inside g.short) (steps q.steps p s.frames q.few a.inside g.short)
       where
         bound : (a l : ℕ) → a ≤ l → l ≤ 16777216 → a + 128 ≤ 16778240
         bound a l p q = omega arith
@@ -149,7 +184,7 @@ module _ (s : Setup) (R : ℕ) (v : HasValue s.rate false R (2 ^ 149)) (lo : 300
     aligned_is : is_aligned 128 (standing s x) t (mul binary64 one one) ≡ not (lt s.stop (block_end 128 t s.rate))
     unfolding is_aligned
     aligned_is =
-        simp (start_is s x t, aligned_first, ratio_one s.rate R v lo hi, closed.one_one, closed.one_same, closed.none_same, (clip_itself s.rate R v lo hi s.frames L1 L2).1, not_far)
+        simp (start_is s x t, aligned_first, ratio_one s.rate R g.value g.low g.high, closed.one_one, closed.one_same, closed.none_same, (clip_itself s.rate R g.value g.low g.high s.frames g.long g.short).1, not_far)
 
     pub plan_aligned : lt s.stop (block_end 128 t s.rate) ≡ false → plan 128 (standing s x) t one one ≡ aligned_plan 128 (standing s x) t (mul binary64 one one)
     unfolding plan
@@ -161,13 +196,14 @@ module _ (s : Setup) (R : ℕ) (v : HasValue s.rate false R (2 ^ 149)) (lo : 300
 
     -- ---- what follows an aligned block
     pub later : Float
-    later = aligned_position 128 x.position s.rate (duration s.frames s.rate) (last_wrap (s.looped && ends_within 128 x.position s.rate (duration s.frames s.rate)) s.frames (first_frame x.position s.rate) 128)
+    later = aligned_position 128 x.position s.rate (duration s.frames s.rate) (last_wrap (x.looped && ends_within 128 x.position s.rate (duration s.frames s.rate)) s.frames (first_frame x.position s.rate) 128)
 
     pub longer : Float
     longer = add binary64 x.elapsed (block_seconds 128 s.rate)
 
     unfoldable pub carried : State
     carried = record {
+      looped = x.looped;
       has_start = x.has_start;
       start = begins x t;
       offset = x.offset;
@@ -189,26 +225,30 @@ module _ (s : Setup) (R : ℕ) (v : HasValue s.rate false R (2 ^ 149)) (lo : 300
     unfolding aligned_plan
     aligned_channels = refl
 
-    pub aligned_sample_lem : (aligned_plan 128 (standing s x) t (mul binary64 one one)).sample ≡ aligned_sample (s.looped && ends_within 128 x.position s.rate (duration s.frames s.rate)) s.frames (first_frame x.position s.rate)
+    pub aligned_sample_lem : (aligned_plan 128 (standing s x) t (mul binary64 one one)).sample ≡ aligned_sample (x.looped && ends_within 128 x.position s.rate (duration s.frames s.rate)) s.frames (first_frame x.position s.rate)
     unfolding aligned_plan turns_over
     aligned_sample_lem = refl
 
-    later_place : Place s.rate R later (exact_frames 128 s.looped s.frames (suc k))
+    -- the tape's p then
+    abbrev next_p : ℕ
+    next_p = (at_end s.frames (tape.head_at s.frames x.looped (at p false) 128)).p
+
+    later_place : Place s.rate R later next_p
     unfolding later
-    later_place = position_on s.rate R v lo hi s.frames L1 L2 s.looped k x.position a.place a.inside
+    later_place = position_on s.rate R g.value g.low g.high s.frames g.long g.short x.looped p x.position a.place a.inside
 
     longer_elapsed : Elapsed longer
     unfolding longer
-    longer_elapsed = elapsed_more s.rate R v lo hi x.elapsed a.elapsed
+    longer_elapsed = elapsed_more s.rate R g.value g.low g.high x.elapsed a.elapsed
 
     -- the stop, or, unlooped, the clip's end
-    carried_ended : carried.ended ≡ (le s.stop (block_end 128 t s.rate) || not s.looped && le (duration s.frames s.rate) later)
+    carried_ended : carried.ended ≡ (le s.stop (block_end 128 t s.rate) || not x.looped && le (duration s.frames s.rate) later)
     unfolding carried has_ended
     carried_ended =
         let u = (elapsed_under_never longer longer_elapsed).0 in
         let c : lt none (mul binary64 one one) ≡ true = ap (lt none) closed.one_one ∙ closed.one_above in
         let d : lt (mul binary64 one one) none ≡ false = ap (λ (y : Float). lt y none) closed.one_one ∙ closed.one_not_below in
-        flat (le s.stop (block_end 128 t s.rate)) (le never longer) (not s.looped) (lt none (mul binary64 one one)) (le (duration s.frames s.rate) later) (lt (mul binary64 one one) none) (lt later none) u c d
+        flat (le s.stop (block_end 128 t s.rate)) (le never longer) (not x.looped) (lt none (mul binary64 one one)) (le (duration s.frames s.rate) later) (lt (mul binary64 one one) none) (lt later none) u c d
       where
         or-false : (b : Bool) → (b || false) ≡ b
         or-false true = refl
@@ -221,10 +261,10 @@ module _ (s : Setup) (R : ℕ) (v : HasValue s.rate false R (2 ^ 149)) (lo : 300
     held : (b : ℕ) (y : Float) → Place s.rate R y b → b ≤ s.frames + 128 → (s.frames < b → le (duration s.frames s.rate) y ≡ true) × (b < s.frames → le (duration s.frames s.rate) y ≡ false)
     held b y p m =
         let d = duration s.frames s.rate in
-        let f = frames_duration s.rate R v lo hi s.frames L2 in
-        let few : p.steps ≤ 131075 = bound p.steps b s.frames p.few m L2 in (
-          (λ n. (below s.rate R v lo hi d y 1 p.steps s.frames b f p.near (small p.steps few) n).le-true),
-          (λ n. (below s.rate R v lo hi y d p.steps 1 b s.frames p.near f (small' p.steps few) n).le-false),
+        let f = frames_duration s.rate R g.value g.low g.high s.frames g.short in
+        let few : p.steps ≤ 131075 = bound p.steps b s.frames p.few m g.short in (
+          (λ n. (below s.rate R g.value g.low g.high d y 1 p.steps s.frames b f p.near (small p.steps few) n).le-true),
+          (λ n. (below s.rate R g.value g.low g.high y d p.steps 1 b s.frames p.near f (small' p.steps few) n).le-false),
         )
       where
         bound : (j b l : ℕ) → 128 * j ≤ b + 128 → b ≤ l + 128 → l ≤ 16777216 → j ≤ 131075
@@ -237,55 +277,47 @@ module _ (s : Setup) (R : ℕ) (v : HasValue s.rate false R (2 ^ 149)) (lo : 300
         small' j h = omega arith
 
     -- it goes on, or it is at or past the clip's end
-    goes_on : carried.ended ≡ false → exact_frames 128 s.looped s.frames (suc k) ≤ s.frames → Alive s R (suc k) carried
+    goes_on : carried.ended ≡ false → next_p ≤ s.frames → Alive s R next_p carried
     unfolding carried
     goes_on e i = record { going = e; ready = inl refl; elapsed = longer_elapsed; inside = i; place = later_place }
 
-    pub aligned_next : le s.stop (block_end 128 t s.rate) ≡ false → (Alive s R (suc k) carried) ⊎ ((carried.ended ≡ true) × (s.looped ≡ false) × (s.frames ≤ 128 * suc k))
-    aligned_next n = go s.looped refl
+    pub aligned_next : le s.stop (block_end 128 t s.rate) ≡ false → (Alive s R next_p carried) ⊎ ((carried.ended ≡ true) × (x.looped ≡ false) × (s.frames ≤ next_p))
+    aligned_next n = go x.looped refl
       where
-        is : (b : Bool) → s.looped ≡ b → carried.ended ≡ (not b && le (duration s.frames s.rate) later)
+        is : (b : Bool) → x.looped ≡ b → carried.ended ≡ (not b && le (duration s.frames s.rate) later)
         is b e = carried_ended ∙ ap₂ (λ (p q : Bool). p || not q && le (duration s.frames s.rate) later) n e
 
-        go : (b : Bool) → s.looped ≡ b → (Alive s R (suc k) carried) ⊎ ((carried.ended ≡ true) × (s.looped ≡ false) × (s.frames ≤ 128 * suc k))
-        go true e = inl (goes_on (is true e) (subst (λ (b : Bool). exact_frames 128 b s.frames (suc k) ≤ s.frames) (sym e) (exact_le 128 s.frames L1 (suc k))))
-        go false e = at (ltb (128 * suc k) s.frames) refl (ltb s.frames (128 * suc k)) refl (le (duration s.frames s.rate) later) refl
+        next_by : Bool → ℕ
+        next_by b = (at_end s.frames (tape.head_at s.frames b (at p false) 128)).p
+
+        go : (b : Bool) → x.looped ≡ b → (Alive s R next_p carried) ⊎ ((carried.ended ≡ true) × (x.looped ≡ false) × (s.frames ≤ next_p))
+        go true e =
+            let m : next_by true ≤ s.frames = end_below s.frames (tape.head_at s.frames true (at p false) 128) (turning s.frames (at p false) 128 g.long a.inside).below in
+            inl (goes_on (is true e) (subst (λ (b : Bool). next_by b ≤ s.frames) (sym e) m))
+        go false e = at_end_of (ltb next_p s.frames) refl (ltb s.frames next_p) refl (le (duration s.frames s.rate) later) refl
           where
-            plain : (j : ℕ) → exact_frames 128 s.looped s.frames j ≡ 128 * j
-            plain j = ap (λ (b : Bool). exact_frames 128 b s.frames j) e ∙ exact_plain 128 s.frames j
+            plain : next_p ≡ p + 128
+            plain = ap next_by e ∙ ap (λ (h : Head). (at_end s.frames h).p) (straight s.frames (at p false) 128)
 
-            there : Place s.rate R later (128 * suc k)
-            there = subst (λ (y : ℕ). Place s.rate R later y) (plain (suc k)) later_place
+            close : next_p ≤ s.frames + 128
+            close = let i = a.inside in omega (arith, plain)
 
-            close : 128 * suc k ≤ s.frames + 128
-            close = let i : 128 * k ≤ s.frames = subst (λ (y : ℕ). y ≤ s.frames) (plain k) a.inside in omega arith
-
-            to : 128 * suc k ≤ s.frames → exact_frames 128 s.looped s.frames (suc k) ≤ s.frames
-            to m = subst (λ (y : ℕ). y ≤ s.frames) (sym (plain (suc k))) m
-
-            at : (p : Bool) → ltb (128 * suc k) s.frames ≡ p → (q : Bool) → ltb s.frames (128 * suc k) ≡ q → (d : Bool) → le (duration s.frames s.rate) later ≡ d
-                → (Alive s R (suc k) carried) ⊎ ((carried.ended ≡ true) × (s.looped ≡ false) × (s.frames ≤ 128 * suc k))
-            at true p q Q d D = let m = ltb-true (128 * suc k) s.frames p in inl (goes_on (is false e ∙ (held (128 * suc k) later there close).1 m) (to (le_of_lt m)))
-            at false p true Q d D = let m = ltb-true s.frames (128 * suc k) Q in inr (is false e ∙ (held (128 * suc k) later there close).0 m, e, le_of_lt m)
-            at false p false Q true D = inr (is false e ∙ D, e, ltb-false (128 * suc k) s.frames p)
-            at false p false Q false D = inl (goes_on (is false e ∙ D) (to (ltb-false s.frames (128 * suc k) Q)))
+            at_end_of : (q : Bool) → ltb next_p s.frames ≡ q → (r : Bool) → ltb s.frames next_p ≡ r → (d : Bool) → le (duration s.frames s.rate) later ≡ d
+                → (Alive s R next_p carried) ⊎ ((carried.ended ≡ true) × (x.looped ≡ false) × (s.frames ≤ next_p))
+            at_end_of true q r Q d D = let m = ltb-true next_p s.frames q in inl (goes_on (is false e ∙ (held next_p later later_place close).1 m) (le_of_lt m))
+            at_end_of false q true Q d D = let m = ltb-true s.frames next_p Q in inr (is false e ∙ (held next_p later later_place close).0 m, e, le_of_lt m)
+            at_end_of false q false Q true D = inr (is false e ∙ D, e, ltb-false next_p s.frames q)
+            at_end_of false q false Q false D = inl (goes_on (is false e ∙ D) (ltb-false s.frames next_p Q))
 
     -- a block that ends at the stop ends the player
     pub aligned_stops : le s.stop (block_end 128 t s.rate) ≡ true → carried.ended ≡ true
-    aligned_stops n = carried_ended ∙ ap (λ (p : Bool). p || not s.looped && le (duration s.frames s.rate) later) n
+    aligned_stops n = carried_ended ∙ ap (λ (p : Bool). p || not x.looped && le (duration s.frames s.rate) later) n
 
     -- ---- which frames an aligned block plays
-    pub aligned_bits : (samples : List ℕ) (c i : ℕ) (r : Float) → i < 128
-        → aligned_sample (s.looped && ends_within 128 x.position s.rate (duration s.frames s.rate)) s.frames (first_frame x.position s.rate) (channel samples s.frames c) i
-        ≡ frame_bits 128 s.looped (record { channels = s.channels; frames = s.frames; rate = r; samples = samples }) k i c
-    unfolding frame_bits
-    aligned_bits samples c i r I = go s.looped a.place a.inside
-      where
-        go : (b : Bool) → Place s.rate R x.position (exact_frames 128 b s.frames k) → exact_frames 128 b s.frames k ≤ s.frames
-            → aligned_sample (b && ends_within 128 x.position s.rate (duration s.frames s.rate)) s.frames (first_frame x.position s.rate) (channel samples s.frames c) i
-            ≡ cond b (get_or (channel samples s.frames c) ((128 * k + i) % s.frames) 0) (cond (ltb (128 * k + i) s.frames) (get_or (channel samples s.frames c) (128 * k + i) 0) 0)
-        go true p h = plays_looped s.rate R v lo hi s.frames L1 L2 k i x.position (channel samples s.frames c) p I
-        go false p h = plays_plain s.rate R v lo hi s.frames L1 L2 k i x.position (channel samples s.frames c) p h ∙ or-zero s.rate R v lo hi s.frames L1 L2 samples c (128 * k + i)
+    pub aligned_bits : (samples : List ℕ) (c i : ℕ) → i < 128
+        → aligned_sample (x.looped && ends_within 128 x.position s.rate (duration s.frames s.rate)) s.frames (first_frame x.position s.rate) (channel samples s.frames c) i
+        ≡ bits_of (channel samples s.frames c) (played s.frames x.looped (tape.head_at s.frames x.looped (at p false) i).p)
+    aligned_bits samples c i I = plays s.rate R g.value g.low g.high s.frames g.long g.short x.looped p i x.position samples c a.place a.inside I
 
   -- ---- a block with the stop inside
   module _ (x : State) (t : Float) where
@@ -294,6 +326,7 @@ module _ (s : Setup) (R : ℕ) (v : HasValue s.rate false R (2 ^ 149)) (lo : 300
 
     unfoldable pub cut_short : State
     cut_short = record {
+      looped = x.looped;
       has_start = x.has_start;
       start = last.start_time.0;
       offset = last.offset.0;
@@ -317,7 +350,7 @@ module _ (s : Setup) (R : ℕ) (v : HasValue s.rate false R (2 ^ 149)) (lo : 300
 
     pub between_stops : le s.stop (block_end 128 t s.rate) ≡ true → cut_short.ended ≡ true
     unfolding cut_short has_ended
-    between_stops h = ap (λ (b : Bool). b || le never last.buffer_time_elapsed.0 || not s.looped && (lt none (mul binary64 one one) && le (duration s.frames s.rate) last.buffer_time.0 || lt (mul binary64 one one) none && lt last.buffer_time.0 none)) h
+    between_stops h = ap (λ (b : Bool). b || le never last.buffer_time_elapsed.0 || not x.looped && (lt none (mul binary64 one one) && le (duration s.frames s.rate) last.buffer_time.0 || lt (mul binary64 one one) none && lt last.buffer_time.0 none)) h
 
     -- a sample at or after the stop is zero
     pub between_zero : (frames : List ℕ) (i : ℕ) → le s.stop (instant t s.rate i) ≡ true → (sub_sample_plan 128 (standing s x) t one (mul binary64 one one)).sample frames i ≡ 0
@@ -327,3 +360,26 @@ module _ (s : Setup) (R : ℕ) (v : HasValue s.rate false R (2 ^ 149)) (lo : 300
         or-true : (b : Bool) → (b || true) ≡ true
         or-true true = refl
         or-true false = refl
+
+-- ---- a loop message: the loop points stay
+abbrev pub switched : State → Bool → State
+switched x on = record {
+  looped = on;
+  has_start = x.has_start;
+  start = x.start;
+  offset = x.offset;
+  position = x.position;
+  elapsed = x.elapsed;
+  started = x.started;
+  entered = x.entered;
+  aligned = x.aligned;
+  ended = x.ended;
+  has_block = x.has_block;
+  time = x.time;
+}
+
+pub switch_player : (s : Setup) (x : State) (on : Bool) → lt (duration s.frames s.rate) none ≡ false → next (standing s x) (message (Loop on)) ≡ standing s (switched x on)
+unfolding next handled on_loop clamped
+switch_player s x on h =
+    let d = duration s.frames s.rate in
+    simp (keep_start d h, keep_end d)

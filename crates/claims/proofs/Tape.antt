@@ -1,82 +1,80 @@
--- The aligned block in whole frames: which frame each sample plays, where the next block goes on, and that this is what the exact
--- position says. `a` is the frame at which a block of n samples begins. Assumes nothing.
-use mathlib.Core.Path.{◌≡◌, refl, sym, ap, ◌∙◌}
-use mathlib.Core.Logic.{◌⊎◌, inl, inr}
+-- The aligned block beside the tape: which frame each sample plays, and where the block stepped over last. `a` is the frame at which a block of n samples
+-- begins. Assumes nothing.
+use mathlib.Core.Path.{◌≡◌, refl, sym, ap, ◌∙◌, subst}
 use mathlib.Core.Bool.{Bool, true, false, cond}
-use Prim.Native.Nat.{ℕ, zero, suc, ◌+◌, ◌-◌, ◌%◌, ◌≤◌, ◌<◌}
-use native.Mathlib.Nat.{le_of_eq, eq-or-lt_of_le, mod-lt, mod_self, mod-eq_of_lt, suc-mod}
+use mathlib.Core.List.{List}
+use Prim.Native.Nat.{ℕ, zero, suc, ◌+◌, ◌-◌, ◌≤◌, ◌<◌}
 use native.Mathlib.Omega.{arith}
-use borrow.Author.Tests.{leb-true, leb-false, le-leb, lt-leb}
+use borrow.Author.Tests.{leb-true, leb-false, lt-ltb, le-ltb}
 use lib.Dec.{leb}
-use Rattle.aligned.specs.Aligned.{played, next_frame, last_wrap}
+use lib.ListN.{get_or}
 use Rattle.std.specs.Prelude.{Option, None, Some}
+use Rattle.aligned.specs.Aligned as aligned
+use Rattle.aligned.specs.Aligned.{next_frame, last_wrap}
+use Rattle.tape.specs.Tape.{Head, played, after_sample, head_at, bits_of}
+use Rattle.tape.proofs.Heads.{at}
 
 -- ---- a block that doesn't turn over goes straight on
-pub straight : (l a i : ℕ) → next_frame false l a i ≡ a + i
-unfolding next_frame played
-straight l a zero = omega arith
-straight l a (suc i) = let e = straight l a i in omega arith
+pub straight_on : (l a i : ℕ) → next_frame false l a i ≡ a + i
+unfolding next_frame aligned.played
+straight_on l a zero = omega arith
+straight_on l a (suc i) = let e = straight_on l a i in omega arith
 
 pub never_wraps : (l a i : ℕ) → last_wrap false l a i ≡ None
 unfolding last_wrap
 never_wraps l a zero = refl
 never_wraps l a (suc i) = never_wraps l a i
 
-pub plays_straight : (l a i : ℕ) → played false l (next_frame false l a i) ≡ a + i
-unfolding played
-plays_straight l a i = straight l a i
-
--- ---- one that turns over plays every frame by its remainder
-played_is : (l x : ℕ) → 0 < l → x ≤ l → played true l x ≡ x % l
-unfolding played
-played_is l x some h = go (eq-or-lt_of_le h)
+-- ---- in one that does, the frame that comes next is the tape's p
+turn_step : (l : ℕ) (h : Head) → suc (cond (leb l h.p) 0 h.p) ≡ (after_sample l true h).p
+turn_step l h = go (leb l h.p) refl
   where
-    go : (x ≡ l) ⊎ (x < l) → cond (leb l x) 0 x ≡ x % l
-    go (inl e) = rw (le-leb l x (le_of_eq (sym e)), e) (sym (mod_self l))
-    go (inr m) = rw (lt-leb l x m) (sym (mod-eq_of_lt m))
+    go : (b : Bool) → leb l h.p ≡ b → suc (cond b 0 h.p) ≡ (after_sample l true h).p
+    go true e = simp (le-ltb h.p l (leb-true l h.p e))
+    go false e = simp (lt-ltb h.p l (leb-false l h.p e))
 
-pub place : (l a i : ℕ) → 0 < l → a ≤ l → (next_frame true l a i ≤ l) × (next_frame true l a i % l ≡ (a + i) % l)
-unfolding next_frame
-place l a zero some h = (h, ap (λ (x : ℕ). x % l) (omega arith))
-place l a (suc i) some h =
-    let x = next_frame true l a i in
-    let before = place l a i some h in
-    let e : played true l x ≡ x % l = played_is l x some before.0 in
-    let m : x % l < l = mod-lt x some in (
-      omega arith,
-      ap (λ (y : ℕ). suc y % l) (e ∙ before.1) ∙ sym (suc-mod (a + i) l) ∙ ap (λ (y : ℕ). y % l) (more a i),
-    )
+pub next_turning : (l a i : ℕ) → next_frame true l a i ≡ (head_at l true (at a false) i).p
+unfolding next_frame aligned.played head_at
+next_turning l a zero = refl
+next_turning l a (suc i) = ap (λ (x : ℕ). suc (cond (leb l x) 0 x)) (next_turning l a i) ∙ turn_step l (head_at l true (at a false) i)
+
+-- and so are the frames that it plays
+played_over : (l p : ℕ) (channel : List ℕ) → get_or channel (cond (leb l p) 0 p) 0 ≡ bits_of channel (played l true p)
+played_over l p channel = go (leb l p) refl
   where
-    more : (a i : ℕ) → suc (a + i) ≡ a + suc i
-    more a i = omega arith
+    go : (b : Bool) → leb l p ≡ b → get_or channel (cond b 0 p) 0 ≡ bits_of channel (played l true p)
+    go true e = simp (le-ltb p l (leb-true l p e))
+    go false e = simp (lt-ltb p l (leb-false l p e))
 
-pub plays_turning : (l a i : ℕ) → 0 < l → a ≤ l → played true l (next_frame true l a i) ≡ (a + i) % l
-plays_turning l a i some h = let p = place l a i some h in played_is l (next_frame true l a i) some p.0 ∙ p.1
+pub plays_turning : (l a i : ℕ) (channel : List ℕ) → get_or channel (aligned.played true l (next_frame true l a i)) 0 ≡ bits_of channel (played l true (head_at l true (at a false) i).p)
+unfolding aligned.played
+plays_turning l a i channel =
+    ap (λ (x : ℕ). get_or channel (cond (leb l x) 0 x) 0) (next_turning l a i) ∙ played_over l (head_at l true (at a false) i).p channel
 
--- ---- where it turned over last
-pub data Wraps (l a n : ℕ) : Option ℕ → Type 0 where
-  within : next_frame true l a n ≡ a + n → a + n ≤ l → Wraps l a n None
-  over : (w : ℕ) → w < n → next_frame true l a n ≡ n - w → l < a + n → Wraps l a n (Some w)
+-- ---- where it stepped over last, and the tape then
+pub data Ends (l a n : ℕ) : Option ℕ → Head → Type 0 where
+  within : a + n ≤ l → Ends l a n None (at (a + n) false)
+  over : (w p : ℕ) → w < n → p ≡ n - w → p ≤ l → l < a + n → Ends l a n (Some w) (at p true)
 
-at_most : (l a i : ℕ) → next_frame true l a i ≤ a + i
-unfolding next_frame played
-at_most l a zero = omega arith
-at_most l a (suc i) = go (leb l (next_frame true l a i)) (at_most l a i)
-  where
-    go : (b : Bool) → next_frame true l a i ≤ a + i → suc (cond b 0 (next_frame true l a i)) ≤ a + suc i
-    go true h = omega arith
-    go false h = omega arith
+reaches_end : (l a i : ℕ) (w : Option ℕ) (h : Head) → Ends l a i w h → l ≤ h.p → l < a + suc i
+reaches_end l a i None h (within m) k = omega arith
+reaches_end l a i (Some w) h (over v p m e n past) k = omega arith
 
-pub wraps : (l a n : ℕ) → a ≤ l → Wraps l a n (last_wrap true l a n)
-unfolding last_wrap next_frame played
-wraps l a zero h = within (omega arith) (omega arith)
-wraps l a (suc i) h = go (leb l (next_frame true l a i)) refl (last_wrap true l a i) (wraps l a i h)
-  where
-    go : (b : Bool) → leb l (next_frame true l a i) ≡ b → (w : Option ℕ) → Wraps l a i w → Wraps l a (suc i) (cond b (Some i) w)
-    go true e w before =
-        over i (omega arith) (ap (λ (b : Bool). suc (cond b 0 (next_frame true l a i))) e ∙ omega arith)
-        (let m = leb-true l (next_frame true l a i) e in let g = at_most l a i in omega arith)
-    go false e None (within x y) =
-        let m = leb-false l (next_frame true l a i) e in
-        within (ap (λ (b : Bool). suc (cond b 0 (next_frame true l a i))) e ∙ omega arith) (omega arith)
-    go false e (Some w) (over v x y z) = over w (omega arith) (ap (λ (b : Bool). suc (cond b 0 (next_frame true l a i))) e ∙ omega arith) (omega arith)
+ends_step : (l a i : ℕ) (b : Bool) (w : Option ℕ) (h : Head) → 0 < l → leb l h.p ≡ b → Ends l a i w h → Ends l a (suc i) (cond b (Some i) w) (after_sample l true h)
+ends_step l a i true w h some e before =
+    rw (le-ltb h.p l (leb-true l h.p e)) (over i 1 (omega arith) (omega arith) some (reaches_end l a i w h before (leb-true l h.p e)))
+ends_step l a i false None h some e (within m) =
+    let k : a + i < l = leb-false l (a + i) e in
+    let same : a + suc i ≡ suc (a + i) = omega arith in
+    rw (lt-ltb (a + i) l k) (subst (λ (x : ℕ). Ends l a (suc i) None (at x false)) same (within (omega arith)))
+ends_step l a i false (Some w) h some e (over v p m q n past) =
+    let k : p < l = leb-false l p e in rw (lt-ltb p l k) (over w (suc p) (omega arith) (omega arith) k (omega arith))
+
+pub ends : (l a n : ℕ) → 0 < l → a ≤ l → Ends l a n (last_wrap true l a n) (head_at l true (at a false) n)
+unfolding last_wrap head_at
+ends l a zero some h =
+    let same : a + 0 ≡ a = omega arith in
+    subst (λ (x : ℕ). Ends l a 0 None (at x false)) same (within (omega arith))
+ends l a (suc i) some h =
+    let head = head_at l true (at a false) i in
+    ends_step l a i (leb l (next_frame true l a i)) (last_wrap true l a i) head some (ap (leb l) (sym (next_turning l a i))) (ends l a i some h)

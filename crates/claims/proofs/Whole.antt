@@ -1,200 +1,168 @@
--- The long-run statement: from its premises to the player before the first block, and from there block by block. Assumes nothing.
+-- Demand 3's statement: from its premises to the player before the first block, and from there block by block. Assumes nothing.
 use mathlib.Core.Path.{◌≡◌, refl, sym, ap, ◌∙◌, subst}
-use mathlib.Core.Bool.{Bool, true, false, false≢true}
+use mathlib.Core.Bool.{Bool, false, true≢false}
 use mathlib.Core.List.{List, [], ◌∷◌, ◌++◌}
-use mathlib.Core.Logic.{inr}
-use Prim.Native.Nat.{ℕ, suc, ◌≤◌}
-use native.Mathlib.Omega.{arith}
-use lib.Dec.{T}
-use lib.ListN.{length}
-use lib.Ieee.{Float, binary32, fits, le}
-use lib.Ieee.Bits.{is_true}
+use Prim.Native.Nat.{ℕ, zero, suc}
+use lib.Dec.{T, lit<}
+use lib.ListN.{length, replicate}
+use lib.Ieee.{Float, binary32, fits, lt, le}
 use Rattle.buffer.specs.Limits.{valid_rate}
-use Rattle.buffer.specs.declared.Shape.{Shape}
-use Rattle.seconds.specs.Seconds.{none, never}
-use Rattle.player.specs.Record.{shape_of, fresh}
-use Rattle.player.specs.declared.Player.{Player}
-use Rattle.player.specs.declared.ControlMessage.TheVariants.{Start, Stop, Loop, LoopStart, LoopEnd}
-use Rattle.claims.specs.Calls.{Call, buffer, message, block, all_typed, Event, accepted, after_all, time_of, opening, playing, Clip, Started, clip_in, start_in, stop_in, switch_in, gathered}
-use Rattle.claims.specs.LongRun.{starts_in_time, Premises, switched_on, exact_frames, Stands, Block, Holds, LongRun}
-use Rattle.claims.proofs.Units.{Rate, rate_of}
-use Rattle.claims.proofs.Position.{frames_zero, elapsed_none, clip_not_none}
-use Rattle.claims.proofs.Chain.{Chain, chain, no_blocks, chain_opening, chain_playing}
-use Rattle.claims.proofs.Opening.{Received, opened, nothing, fresh_is, receive, receive_all, Sound, SoundIf, SomeSeconds, open_all}
-use Rattle.claims.proofs.States.{Setup, State, standing, Alive}
-use Rattle.claims.proofs.Run.{stop_of, Starts}
-use Rattle.claims.proofs.Conclude.{clip_of, stands_alive, each_block}
+use Rattle.seconds.specs.Seconds.{instant}
+use Rattle.player.specs.Record.{fresh}
+use Rattle.tape.specs.Tape.{Tape, Step, a_block, stepped, stepped_all, stays_off}
+use Rattle.claims.specs.Calls.{Call, buffer, message, block, all_typed, Event, accepted, after_all, time_of, opening, playing, stop_in, switch_in, gathered}
+use Rattle.claims.specs.LongRun.{PlainBlock, OnlyBlocks, Premises, switched_on, is_before, is_at, Plays, Stands, end_of, NoneAt, Block, Holds, LongRun}
+use Rattle.claims.specs.LoopSwitch.{step_in, PlainStep, OnlySteps}
+use Rattle.claims.proofs.Order as order
+use Rattle.claims.proofs.Laws.{Time}
+use Rattle.claims.proofs.Begin.{loop_of_switch, Begins, got, first, first_is, ground, moment}
+use Rattle.claims.proofs.Unswitched.{Unswitched, begun, unswitched_none, unswitched_block, unswitched_after, same_bits}
+use Rattle.claims.proofs.States.{Setup, Ground, State, standing}
+use Rattle.claims.proofs.Run.{Upward, Moment, Hits, Reached, reach}
+use Rattle.claims.proofs.Events.{Plain, plain}
+use Rattle.claims.proofs.Conclude.{Meets, Passes, channels_at, frames_at, zero_at, time_at, stands_by, short_of, at_stop, at_or_after, hits_past, hits_reach, up_reach, up_past, not_past, stands_at, over_at}
 
--- ---- what was received, by what the opening holds of each kind
-abbrev last_by : {A B : Type 0} → (A → B) → B → List A → B
-last_by f d [] = d
-last_by f d (x ∷ xs) = last_by f (f x) xs
+-- ---- blocks alone are steps
+plain_step : (samples : List ℕ) (c : Call) → PlainBlock samples c → PlainStep samples c
+plain_step samples (buffer channels frames rate s) h = absurd h
+plain_step samples (message m) h = absurd h
+plain_step samples (block out s time rate factor) h = h
 
-received : {A B : Type 0} (part : Received → B) (kind : Call → List A) (f : A → B) → ((a : Received) (c : Call) (rest : List A) → last_by f (part a) (kind c ++ rest) ≡ last_by f (part (receive a c)) rest)
-    → (a : Received) (es : List Event) → part (receive_all a es) ≡ last_by f (part a) (gathered kind es)
-received part kind f one a [] = refl
-received part kind f one a (e ∷ es) = received part kind f one (receive a e.call) es ∙ sym (one a e.call (gathered kind es))
+pub only_steps_of : (samples : List ℕ) (es : List Event) → OnlyBlocks samples es → OnlySteps samples es
+only_steps_of samples [] h = tt
+only_steps_of samples (e ∷ es) h = (plain_step samples e.call h.0, only_steps_of samples es h.1)
 
-record Held : Type 0 where
-  has : Bool
-  shape : Shape
+pub steps_of : (samples : List ℕ) (es : List Event) → OnlyBlocks samples es → gathered step_in es ≡ replicate (length es) a_block
+steps_of samples [] h = refl
+steps_of samples (e ∷ es) h =
+    ap (λ (c : Call). step_in c ++ gathered step_in es) (plain samples e.call h.0).is ∙ ap (λ (xs : List Step). a_block ∷ xs) (steps_of samples es h.1)
 
-start_part : Received → Started
-start_part a = record { when = a.start; offset = a.offset; duration = a.length }
+pub off_blocks : (n l k : ℕ) (t : Tape) → T (stays_off n l t (replicate k a_block))
+unfolding stays_off
+off_blocks n l zero t = tt
+off_blocks n l (suc k) t = off_blocks n l k (stepped n l t a_block)
 
-start_one : (a : Received) (c : Call) (rest : List Started) → last_by (λ s. s) (start_part a) (start_in c ++ rest) ≡ last_by (λ s. s) (start_part (receive a c)) rest
-unfolding start_part
-start_one a (buffer channels frames rate samples) rest = refl
-start_one a (message (Start when offset duration)) rest = refl
-start_one a (message (Stop when)) rest = refl
-start_one a (message (Loop on)) rest = refl
-start_one a (message (LoopStart at)) rest = refl
-start_one a (message (LoopEnd at)) rest = refl
-start_one a (block out samples time rate factor) rest = refl
-
-clip_part : Received → Held
-clip_part a = record { has = a.has_buffer; shape = a.shape }
-
-held_clip : Clip → Held
-held_clip c = record { has = true; shape = shape_of c.channels c.frames c.rate }
-
-clip_one : (a : Received) (c : Call) (rest : List Clip) → last_by held_clip (clip_part a) (clip_in c ++ rest) ≡ last_by held_clip (clip_part (receive a c)) rest
-unfolding clip_part held_clip
-clip_one a (buffer channels frames rate samples) rest = refl
-clip_one a (message (Start when offset duration)) rest = refl
-clip_one a (message (Stop when)) rest = refl
-clip_one a (message (Loop on)) rest = refl
-clip_one a (message (LoopStart at)) rest = refl
-clip_one a (message (LoopEnd at)) rest = refl
-clip_one a (block out samples time rate factor) rest = refl
-
-stop_one : (a : Received) (c : Call) (rest : List Float) → last_by (λ s. s) a.stop (stop_in c ++ rest) ≡ last_by (λ s. s) (receive a c).stop rest
-stop_one a (buffer channels frames rate samples) rest = refl
-stop_one a (message (Start when offset duration)) rest = refl
-stop_one a (message (Stop when)) rest = refl
-stop_one a (message (Loop on)) rest = refl
-stop_one a (message (LoopStart at)) rest = refl
-stop_one a (message (LoopEnd at)) rest = refl
-stop_one a (block out samples time rate factor) rest = refl
-
-switch_one : (a : Received) (c : Call) (rest : List Bool) → last_by (λ s. s) a.looped (switch_in c ++ rest) ≡ last_by (λ s. s) (receive a c).looped rest
-switch_one a (buffer channels frames rate samples) rest = refl
-switch_one a (message (Start when offset duration)) rest = refl
-switch_one a (message (Stop when)) rest = refl
-switch_one a (message (Loop on)) rest = refl
-switch_one a (message (LoopStart at)) rest = refl
-switch_one a (message (LoopEnd at)) rest = refl
-switch_one a (block out samples time rate factor) rest = refl
-
--- at most one of a kind: the last is the first
-only_stop : (l : List Float) → length l ≤ 1 → last_by (λ s. s) never l ≡ stop_of l
-only_stop [] h = refl
-only_stop (x ∷ []) h = refl
-only_stop (x ∷ y ∷ l) h = absurd (two (length l) h)
-  where
-    two : (n : ℕ) → suc (suc n) ≤ 1 → ⊥
-    two n h = omega arith
-
-only_switch : (l : List Bool) → length l ≤ 1 → last_by (λ s. s) false l ≡ switched_on l
-only_switch [] h = refl
-only_switch (x ∷ []) h = refl
-only_switch (x ∷ y ∷ l) h = absurd (two (length l) h)
-  where
-    two : (n : ℕ) → suc (suc n) ≤ 1 → ⊥
-    two n h = omega arith
-
--- ---- a clip's duration is above 0
-some_seconds : SomeSeconds
-some_seconds n r l s f t = let q = rate_of r f t in (clip_not_none r q.units q.value q.low q.high n l s).1
+blocks_at : (samples : List ℕ) (front : List Event) (e : Event) (back : List Event) → OnlyBlocks samples (front ++ (e ∷ back)) → OnlyBlocks samples front × OnlyBlocks samples (e ∷ back)
+blocks_at samples [] e back h = (tt, h)
+blocks_at samples (f ∷ front) e back h = let r = blocks_at samples front e back h.1 in ((h.0, r.0), r.1)
 
 -- ---- the premises, put to use
-module _ (rate : Float) (f : T (fits binary32 rate)) (t : T (valid_rate rate)) (calls : List Call) (ty : T (all_typed calls)) (h : Premises rate (accepted (fresh rate) calls)) where
+abbrev pub begins_of : (rate : Float) (es : List Event) → Premises rate es → Begins rate es
+begins_of rate es h = record {
+  clip = h.clip;
+  start = h.start;
+  one_clip = h.one_clip;
+  own_rate = h.own_rate;
+  one_start = h.one_start;
+  in_time = h.in_time;
+  no_offset = h.no_offset;
+  no_duration = h.no_duration;
+  few_stops = h.few_stops;
+  no_points = h.no_points;
+}
+
+module _ (rate : Float) (f : T (fits binary32 rate)) (ok : T (valid_rate rate)) (calls : List Call) (ty : T (all_typed calls)) (h : Premises rate (accepted (fresh rate) calls)) where
   abbrev es : List Event
   es = accepted (fresh rate) calls
 
-  abbrev got : Received
-  got = receive_all nothing (opening es)
+  abbrev b : Begins rate es
+  b = begins_of rate es h
 
-  abbrev setup : Setup
-  setup = record { rate = rate; channels = h.clip.channels; frames = h.clip.frames; looped = switched_on (gathered switch_in (opening es)); stop = stop_of (gathered stop_in (opening es)) }
+  abbrev g : Ground
+  g = ground rate f ok calls ty b
 
-  abbrev first : State
-  first = record { has_start = got.has_start; start = h.start.when; offset = h.start.offset; position = none; elapsed = none; started = false; entered = false; aligned = false; ended = false; has_block = false; time = none }
+  abbrev s : Setup
+  s = g.setup
 
-  starts_are : start_part got ≡ h.start
-  starts_are = received start_part start_in (λ s. s) start_one nothing (opening es) ∙ ap (last_by (λ s. s) (start_part nothing)) h.one_start
+  abbrev x : State
+  x = first rate f ok calls ty b
 
-  clips_are : clip_part got ≡ held_clip h.clip
-  clips_are = received clip_part clip_in held_clip clip_one nothing (opening es) ∙ ap (last_by held_clip (clip_part nothing)) h.one_clip
+  abbrev stops : List Float
+  stops = gathered stop_in (opening es)
 
-  stop_is : got.stop ≡ stop_of (gathered stop_in (opening es))
-  stop_is = received (λ (a : Received). a.stop) stop_in (λ s. s) stop_one nothing (opening es) ∙ only_stop (gathered stop_in (opening es)) h.few_stops
+  abbrev on : Bool
+  on = switched_on (gathered switch_in (opening es))
 
-  switch_is : got.looped ≡ switched_on (gathered switch_in (opening es))
-  switch_is = received (λ (a : Received). a.looped) switch_in (λ s. s) switch_one nothing (opening es) ∙ only_switch (gathered switch_in (opening es)) h.few_switches
+  loop_is : (got rate f ok calls ty b).looped ≡ on
+  loop_is = loop_of_switch (opening es) h.few_switches
 
-  all_open : (after_all (fresh rate) (opening es) ≡ opened rate got) × SoundIf got
-  all_open =
-      open_all some_seconds rate nothing (fresh rate) (opening es) (fresh_is rate) (λ (e : false ≡ true). absurd (false≢true e))
-      (chain_opening (fresh rate) es (chain (fresh rate) calls ty)) (no_blocks es) h.no_points
+  -- after k blocks the tape is one without a switch
+  tape_at : (k : ℕ) → Unswitched 128 h.clip.frames on k (stepped_all 128 h.clip.frames (begun (got rate f ok calls ty b).looped) (replicate k a_block))
+  tape_at k =
+      unswitched_after 128 h.clip.frames (lit< tt) g.long on k (begun (got rate f ok calls ty b).looped)
+      (subst (λ (c : Bool). Unswitched 128 h.clip.frames on 0 (begun c)) (sym loop_is) (unswitched_none 128 h.clip.frames on))
 
-  has_is : got.has_buffer ≡ true
-  unfolding clip_part held_clip
-  has_is = ap (λ (x : Held). x.has) clips_are
+  at_first : (X : Float → Type 0) → Moment g X (begun (got rate f ok calls ty b).looped) x (playing es)
+  at_first X =
+      moment rate f ok calls ty b X (only_steps_of h.clip.samples (playing es) h.only_blocks)
+      (subst (λ (ts : List Step). T (stays_off 128 h.clip.frames (begun (got rate f ok calls ty b).looped) ts)) (sym (steps_of h.clip.samples (playing es) h.only_blocks)) (off_blocks 128 h.clip.frames (length (playing es)) _))
 
-  shape_is : got.shape ≡ shape_of h.clip.channels h.clip.frames rate
-  unfolding clip_part held_clip
-  shape_is = ap (λ (x : Held). x.shape) clips_are ∙ ap (shape_of h.clip.channels h.clip.frames) h.own_rate
+  -- ---- one of the blocks
+  module _ (front : List Event) (e : Event) (back : List Event) (split : playing es ≡ front ++ (e ∷ back)) where
+    abbrev k : ℕ
+    k = length front
 
-  start_is : got.start ≡ h.start.when
-  unfolding start_part
-  start_is = ap (λ (x : Started). x.when) starts_are
+    here : OnlyBlocks h.clip.samples front × OnlyBlocks h.clip.samples (e ∷ back)
+    here = blocks_at h.clip.samples front e back (subst (OnlyBlocks h.clip.samples) split h.only_blocks)
 
-  offset_is : got.offset ≡ h.start.offset
-  unfolding start_part
-  offset_is = ap (λ (x : Started). x.offset) starts_are
+    c : Plain h.clip.samples e.call
+    c = plain h.clip.samples e.call here.1.0
 
-  length_is : got.length ≡ never
-  unfolding start_part
-  length_is = ap (λ (x : Started). x.duration) starts_are ∙ h.no_duration
+    abbrev t : Tape
+    t = stepped_all 128 h.clip.frames (begun (got rate f ok calls ty b).looped) (gathered step_in front)
 
-  sound : Sound h.clip.channels h.clip.frames rate
-  sound = subst (λ (s : Shape). Sound s.channels s.frames s.rate) shape_is (all_open.1 has_is)
+    t_is : t ≡ stepped_all 128 h.clip.frames (begun (got rate f ok calls ty b).looped) (replicate k a_block)
+    t_is = ap (stepped_all 128 h.clip.frames (begun (got rate f ok calls ty b).looped)) (steps_of h.clip.samples front here.0)
 
-  opened_is : opened rate got ≡ standing setup first
-  opened_is = simp (start_is, stop_is, offset_is, length_is, switch_is, has_is, shape_is)
+    before : Unswitched 128 h.clip.frames on k t
+    before = subst (Unswitched 128 h.clip.frames on k) (sym t_is) (tape_at k)
 
-  first-is : after_all (fresh rate) (opening es) ≡ standing setup first
-  first-is = all_open.0 ∙ opened_is
+    reached : (X : Float → Type 0) → Upward X → Hits g X front
+        → Reached g X t (after_all (standing s x) front) (e ∷ back)
+    reached X up hits =
+        reach g X up front (e ∷ back) (begun (got rate f ok calls ty b).looped) x
+        (subst (Moment g X (begun (got rate f ok calls ty b).looped) x) split (at_first X)) hits
 
-  q : Rate rate
-  q = rate_of rate f t
+    met : Reached g (Meets s.stop) t (after_all (standing s x) front) (e ∷ back)
+    met = reached (Meets s.stop) (up_reach g) (hits_reach g front)
 
-  ready : Alive setup q.units 0 first
-  unfolding exact_frames
-  ready = record {
-    going = refl;
-    ready = inr (refl, is_true _ h.no_offset);
-    elapsed = elapsed_none;
-    inside = omega arith;
-    place = record { steps = 0; few = omega arith; near = frames_zero rate q.units };
-  }
+    time : Time (time_of e.call)
+    time = time_at g (Meets s.stop) (up_reach g) t met.state e back met.moment c
 
-  whole_clip : clip_of setup h.clip.samples ≡ h.clip
-  whole_clip = ap (λ (r : Float). record { channels = h.clip.channels; frames = h.clip.frames; rate = r; samples = h.clip.samples }) (sym h.own_rate)
+    -- the tape's frames are those of demand 3
+    plays_by : (X : Float → Type 0) (up : Upward X) → Reached g X t (after_all (standing s x) front) (e ∷ back) → (X (end_of rate e) → ⊥) → lt s.stop (end_of rate e) ≡ false → Plays on h.clip k e
+    plays_by X up r n p d i D I =
+        frames_at g X up t r.state e back r.moment c n p d i D I
+        ∙ same_bits 128 h.clip.frames (lit< tt) g.long on k t h.clip i d refl before
 
-  in_time_lem : (l : List Event) → T (starts_in_time h.start.when l) → Starts setup q.units q.value q.low q.high sound.long sound.short sound.few h.clip.samples first l
-  in_time_lem [] b = tt
-  in_time_lem (e ∷ l) b = λ n. is_true (le h.start.when (time_of e.call)) b
+    before_stop : T (is_before (end_of rate e) stops) → le s.stop (end_of rate e) ≡ false
+    before_stop = short_of g stops refl (time_of e.call) time
+
+    at_the_stop : (l : List Float) → stops ≡ l → T (is_at (end_of rate e) stops) → NoneAt rate stops front → Plays on h.clip k e
+    at_the_stop [] none b na = absurd (subst T (ap (is_at (end_of rate e)) none) b)
+    at_the_stop (st ∷ rest) one b na =
+        let same = (order.eq_not_lt (end_of rate e) s.stop (at_stop g stops refl (end_of rate e) b)).1 in
+        plays_by (Passes s.stop) (up_past g) (reached (Passes s.stop) (up_past g) (hits_past g stops refl front st rest one na))
+        (λ n. true≢false (sym n ∙ same)) same
+
+    block_holds : Block rate on h.clip stops front e back
+    block_holds = record {
+      channels = channels_at g (Meets s.stop) (up_reach g) t met.state e back met.moment c;
+      plays = λ b. let n = before_stop b in plays_by (Meets s.stop) (up_reach g) met (λ m. true≢false (sym m ∙ n)) (not_past g (time_of e.call) n);
+      stands = λ b. stands_at g t met.state e back met.moment c on (suc k) (unswitched_block 128 h.clip.frames (lit< tt) g.long on k t before) (before_stop b);
+      plays_at_stop = at_the_stop stops refl;
+      zero_from_stop = λ d i D I b. zero_at g (Meets s.stop) (up_reach g) t met.state e back met.moment c d i D I (at_or_after g stops refl (instant (time_of e.call) rate i) b);
+      ends_at_stop = λ b. over_at g t met.state e back met.moment c (at_or_after g stops refl (end_of rate e) b);
+    }
 
   holds : Holds rate es h.clip
+  unfolding stepped_all
   holds = record {
-    begins = subst (λ (p : Player). Stands rate setup.looped h.clip.frames 0 p) (sym first-is) (stands_alive setup q.units q.value q.low q.high sound.long sound.short sound.few h.clip.samples 0 first ready);
-    each = λ front e back split.
-        subst (λ (c : Clip). Block rate setup.looped c (gathered stop_in (opening es)) front e back) whole_clip
-        (each_block setup q.units q.value q.low q.high sound.long sound.short sound.few h.clip.samples (gathered stop_in (opening es)) refl first (playing es) ready
-        (subst (λ (p : Player). Chain p (playing es)) first-is (chain_playing (fresh rate) es (chain (fresh rate) calls ty))) h.only_blocks (in_time_lem (playing es) h.in_time) front e back split);
+    begins =
+        subst (Stands rate on h.clip.frames 0) (sym (first_is rate f ok calls ty b))
+        (stands_by g (λ z. ⊥) on 0 (begun (got rate f ok calls ty b).looped) x (tape_at 0) (λ p. p.past) (at_first (λ z. ⊥)).inv);
+    each = block_holds;
   }
 
 pub long_run_lem : LongRun
-long_run_lem rate f t calls ty h = holds rate f t calls ty h
+long_run_lem rate f ok calls ty h = holds rate f ok calls ty h

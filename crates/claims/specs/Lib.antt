@@ -1,7 +1,9 @@
 -- Statements about the definitions of the other crates.
 pub mod Calls
 pub mod LongRun
+pub mod LoopSwitch
 pub mod Longer
 pub mod Instances
+pub mod SwitchInstances
 pub mod Known
 pub mod Conversions

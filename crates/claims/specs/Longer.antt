@@ -21,6 +21,7 @@ use Rattle.std.specs.Prelude.{Err}
 use Rattle.buffer.specs.declared.refusals.Refusal.{Refusal}
 use Rattle.claims.specs.Calls.{Call, buffer, message, block, typed, channels_or, is_block, moved, next, accepted, output_by}
 use Rattle.claims.specs.LongRun.{Premises, Holds}
+use Rattle.claims.specs.LoopSwitch.{SwitchPremises, Switched}
 
 -- A call of demand 3; or a block in cents with all that is handed in: the output, the samples, time, rate and cents; or a preview of a block, its output
 -- being the second one, with a factor or in cents.
@@ -122,6 +123,10 @@ pub record InCents : Type 0 where
   pub long_run : (rate : Float) → T (fits binary32 rate) → T (valid_rate rate) → (calls : List LongerCall) → T (all_typed_longer calls)
       → (h : Premises rate (accepted (fresh rate) (replaced (fresh rate) calls)))
       → Holds rate (accepted (fresh rate) (replaced (fresh rate) calls)) h.clip
+  -- and so does the statement about the loop switched during playback (document 02, 2.6)
+  pub loop_switch : (rate : Float) → T (fits binary32 rate) → T (valid_rate rate) → (calls : List LongerCall) → T (all_typed_longer calls)
+      → (h : SwitchPremises rate (accepted (fresh rate) (replaced (fresh rate) calls)))
+      → Switched rate (accepted (fresh rate) (replaced (fresh rate) calls)) h.clip
 
 -- ---- previews: 'the player goes on as if nobody had looked'
 abbrev pub is_preview : LongerCall → Bool

@@ -7,6 +7,8 @@ ghost use Rattle.claims.specs.Instances.{Instances};
 ghost use Rattle.claims.specs.Known.{KnownFrames};
 ghost use Rattle.claims.specs.LongRun.{LongRun};
 ghost use Rattle.claims.specs.Longer.{InCents, Previews};
+ghost use Rattle.claims.specs.LoopSwitch.{LoopSwitch};
+ghost use Rattle.claims.specs.SwitchInstances.{SwitchInstances};
 
 // Demand 3, for every list of calls on one fresh player.
 pub fn long_run()
@@ -28,10 +30,24 @@ pub fn previews()
     ensures { Previews }
 {}
 
-// Lists of calls that meet its premises: looped, unlooped, and with a stop.
+// The loop switched between blocks: every list that meets the premises follows the tape, and
+// without a switch during playback the tape has demand 3's frames and positions.
+#[tactic(auto, using(crate::proofs::Switched::loop_switch_lem))]
+pub fn loop_switch()
+    ensures { LoopSwitch }
+{}
+
+// Lists of calls that meet the premises of `long_run`: looped, unlooped, and with a stop.
 #[tactic(auto, using(crate::proofs::Instances::instances))]
 pub fn premises_are_met()
     ensures { Instances }
+{}
+
+// Lists of calls that meet the premises of `loop_switch`: switched before the first block, within
+// the clip, after a wrap, at an exact fit, and after the end.
+#[tactic(auto, using(crate::proofs::SwitchInstances::switch_instances))]
+pub fn switches_are_met()
+    ensures { SwitchInstances }
 {}
 
 // Conversion by a real change keeps time. Frame i of the result is read at i × source rate / target
