@@ -3,11 +3,13 @@
 mod bench;
 mod buffers;
 mod cents;
+mod lists;
 mod player;
 mod positions;
 mod print;
 mod resampling;
 mod table;
+mod tape;
 mod text;
 
 use crate::render::Alloc;
@@ -314,6 +316,9 @@ pub fn main() {
         ["bench"] => return bench::main(),
         ["factors"] => return cents::main(),
         ["positions", count] => return positions::main(count.parse().expect("a count")),
+        ["tape", seed, lists] => {
+            return tape::main(seed.parse().expect("a seed"), lists.parse().expect("a count"))
+        }
         _ => (),
     }
     std::panic::set_hook(Box::new(|_| ()));
