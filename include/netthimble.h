@@ -225,7 +225,8 @@ netthimble_told netthimble_start(netthimble_player player, double when, double o
 /* Stop at `when` seconds of the context. Refused: 9, 11. */
 netthimble_told netthimble_stop(netthimble_player player, double when);
 
-/* Loop on or off. Never refused. */
+/* Loop on or off, before the first block or between blocks: it counts from the next block on (docs/RULE.md, 'The loop switched during
+ * playback'). Never refused. */
 netthimble_told netthimble_loop(netthimble_player player, bool on);
 
 /* The loop's start and end, in seconds of the clip. Once a buffer stands, a start is brought into 0..duration, and an end at or below 0,

@@ -383,7 +383,7 @@ class Player:
         self._tell("stop", when)
 
     def set_loop(self, on):
-        """Loop on or off: whether `on` is true."""
+        """Loop on or off, from the next block on: whether `on` is true."""
         self._tell("loop", bool(on))
 
     loop = property(lambda self: bool(self._record.loop_state.is_looping), set_loop, doc="Whether the clip is looped.")
