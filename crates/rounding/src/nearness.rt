@@ -4,10 +4,10 @@ ghost use Rattle.rounding.specs.Near.{float_eq, larger, near, near_zero};
 
 use super::binary_float::BinaryFloat;
 
-// 2^-26: the tolerance of `near` and `near_zero`.
+// 2^-26: the default tolerance of `near` and of `near_zero`.
 pub const NEAR_TOLERANCE: f64 = 0.00000001490116119384765625;
 
-// 0.1: the tolerance of `float_eq`.
+// 0.1: the default tolerance of `float_eq`.
 pub const RATE_TOLERANCE: f32 = 0.1;
 
 // b where a < b, and a otherwise. std's `max` answers otherwise where one is a NaN.

@@ -58,6 +58,24 @@ pub fn floor(x: f64) -> f64
     }
 }
 
+// `floor`, and its result as a number, as `truncate` gives it: from the digits at once where x is not
+// negative and below 2^52. A sub-sample block asks for both for each sample.
+#[tactic(auto, using(crate::proofs::Read::told_no_nan, crate::proofs::Wholes::cut_le, crate::proofs::Wholes::below, crate::proofs::Wholes::cast_fits, crate::proofs::Wholes::floor_above, crate::proofs::Floored::counted_above))]
+pub fn floor_counted(x: f64) -> (f64, u64)
+    ensures { (result.0 ≡ floor binary64 x) × (result.1 ≡ truncate (floor binary64 x)) }
+{
+    if !x.is_nan() {
+        let b = x.to_bits();
+        let place = place_of(b);
+        if b < 0x8000_0000_0000_0000 && place < 1074 {
+            let n = cut(digits_of(b), 1074 - place);
+            return (n as f64, n);
+        }
+    }
+    let whole = floor(x);
+    (whole, truncate(whole))
+}
+
 // The smallest whole number that is not below x. A result of 0 has x's sign.
 #[tactic(auto, using(crate::proofs::Wholes::ceil_floor))]
 pub fn ceil(x: f64) -> f64
