@@ -37,3 +37,5 @@ number refused.Layout = 15
 number refused.Cents = 16
 -- clip with an onset: the onset not below the frames (document 02, 2.5)
 number refused.Onset = 17
+-- settings: a tolerance not finite, or outside 0 to 1 (document 02, 2.7)
+number refused.Tolerance = 18

@@ -20,6 +20,7 @@ pub enum Refusal {
     Layout = 15,
     Cents = 16,
     Onset = 17,
+    Tolerance = 18,
 }
 
 impl Refusal {

@@ -5,7 +5,7 @@ use Rattle.std.specs.Float.Ieee.{of_bits, sub, mul, le, eq, to_unsigned}
 use Rattle.rounding.specs.Rounding.{floor, widen, narrow}
 use Rattle.fused.specs.Fused.{fma}
 use Rattle.seconds.specs.Seconds.{none, one}
-use Rattle.sub_sample.specs.Near.{is_near}
+use Rattle.tolerances.specs.Tolerances.{is_near}
 use Rattle.sub_sample.specs.declared.Settings.{Settings}
 use Rattle.sub_sample.specs.Infos.{entry}
 use Rattle.sub_sample.specs.declared.PlaybackInfo.{PlaybackInfo}
@@ -21,16 +21,16 @@ loop_frame s =
     (s.buffer_length - 1)
 
 -- unlooped, it is continued from the last two frames
-unfoldable pub extrapolated : List ℕ → ℕ → Float → Float
-extrapolated channel frame k =
-    cond (is_near k one || eqb frame 0) none
+unfoldable pub extrapolated : Settings → List ℕ → ℕ → Float → Float
+extrapolated s channel frame k =
+    cond (is_near s.tolerances k one || eqb frame 0) none
     (sub binary64 (mul binary64 (of_bits binary64 0x4000_0000_0000_0000) (widen (get_or channel frame 0))) (widen (get_or channel (frame - 1) 0)))
 
 -- the sample after frame number `frame`
 unfoldable pub following : Settings → List ℕ → ℕ → Float → Float
 following s channel frame k =
     cond (ltb (frame + 1) s.buffer_length) (widen (get_or channel (frame + 1) 0))
-    (cond s.is_looping (widen (get_or channel (loop_frame s) 0)) (extrapolated channel frame k))
+    (cond s.is_looping (widen (get_or channel (loop_frame s) 0)) (extrapolated s channel frame k))
 
 -- k times the next is rounded, (1 − k) times the frame is added to it with one rounding, and the sum is narrowed to f32
 unfoldable pub between : Float → Float → Float → ℕ

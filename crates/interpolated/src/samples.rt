@@ -9,7 +9,7 @@ ghost use Rattle.interpolated.specs.Interpolated.{loop_frame, extrapolated, foll
 use super::Neighbours;
 use frames::frame_or_zero;
 use fused::fma_narrow;
-use rounding::{NEAR_TOLERANCE, floor, near, truncate, widen};
+use rounding::{floor, truncate, widen};
 use sub_sample::{Infos, Settings};
 
 // A channel's frames, and the settings of the block that reads them. A sample's frame and fraction go one
@@ -60,9 +60,9 @@ impl<'a> Reader<'a> {
     // The sample after the last, unlooped: continued from the last two frames.
     #[tactic(auto, unfolding(crate::specs::Interpolated::extrapolated))]
     fn extrapolated(&self, frame: usize, k: f64) -> f64
-        ensures { result ≡ extrapolated self.now.channel.now frame k }
+        ensures { result ≡ extrapolated self.now.s self.now.channel.now frame k }
     {
-        if near(k, 1.0, NEAR_TOLERANCE) || frame == 0 {
+        if self.s.tolerances.is_near(k, 1.0) || frame == 0 {
             0.0
         } else {
             2.0 * self.frame_at(frame) - self.frame_at(frame - 1)

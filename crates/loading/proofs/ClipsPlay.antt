@@ -5,7 +5,7 @@ use Prim.Native.Nat.{ℕ, ◌≤◌, ◌<◌}
 use native.Mathlib.Omega.{arith}
 use borrow.Author.Tests.{le-ltb, ne_eqb, ltb-true}
 use Rattle.std.specs.Prelude.{Ok}
-use Rattle.player.specs.Record.{fresh, given}
+use Rattle.player.specs.Record.{fresh, fresh_with, given}
 use Rattle.player.specs.Messages.{made, buffered, clamped}
 use Rattle.clip.specs.Reading.{form_of, read_with_onset}
 use Rattle.clip.specs.Statement.{frames_of}
@@ -16,7 +16,7 @@ use Rattle.loading.specs.Statement.{ClipsPlay}
 
 sent : (file : List ℕ) (read : WithOnset) (room : ℕ) → read_with_onset file ≡ Ok read → count_of read.header.shape ≤ room
     → loaded file room ≡ Ok (clamped (given (fresh read.header.shape.rate) read.header.shape), count_of read.header.shape)
-unfolding made buffered fresh
+unfolding made buffered fresh fresh_with
 sent file read room e fits =
     let shape = read.header.shape in
     let p = read_passes (form_of file) file read e in

@@ -116,6 +116,7 @@ settings p time rate computed = record {
   buffer_duration = in_clip (clip_seconds p);
   sampling_ratio = sampling_ratio p;
   sample_rate = p.sample_rate;
+  tolerances = p.tolerances;
 }
 
 -- the playhead before the first sample: an unlooped block leaves the loop

@@ -4,14 +4,19 @@ use Rattle.std.specs.Prelude.{Bool, true, not, ◌||◌, cond, ℕ, eqb, Float, 
 use Rattle.std.specs.Float.Ieee.{lt, le}
 use Rattle.std.specs.Float.Ieee.Scale.{finite}
 use Rattle.seconds.specs.Seconds.{context, in_clip, none}
-use Rattle.player.specs.Record.{shape_of, loop_of, fresh, told, given}
+use Rattle.player.specs.Record.{shape_of, loop_of, fresh, fresh_with, told, given}
 use Rattle.buffer.specs.Limits.{valid_rate, valid_shape, duration}
 use Rattle.buffer.specs.declared.refusals.Refusal.TheVariants as refused
 use Rattle.player.specs.declared.LoopState.{LoopState}
 use Rattle.player.specs.declared.Player.{Player}
+use Rattle.player.specs.declared.PlayerOptions.{PlayerOptions}
 use Rattle.player.specs.declared.ControlMessage.{ControlMessage}
 use Rattle.player.specs.declared.ControlMessage.TheVariants.{Start, Stop, Loop, LoopStart, LoopEnd}
 use Rattle.buffer.specs.declared.refusals.Refusal.{Refusal}
+
+-- a player made for an output rate with these options: row 2, and what else is checked when a player is made comes after it
+unfoldable pub made_with : Float → PlayerOptions → Result Player Refusal
+made_with rate options = cond (valid_rate rate) (Ok (fresh_with rate options)) (Err refused.Rate)
 
 -- a player made for an output rate
 unfoldable pub made : Float → Result Player Refusal

@@ -1,4 +1,5 @@
--- The player's record: a fresh one, and what each kind of call may change of it (document 01, 'Messages'). Definitions only.
+-- The player's record: a fresh one, and what each kind of call may change of it (document 01, 'Messages'). The tolerances are those that the player
+-- was made with (document 02, 2.7): no call changes them. Definitions only.
 use Rattle.std.specs.Prelude.{Bool, true, false, ℕ, Float}
 use Rattle.std.specs.Float.{binary32}
 use Rattle.std.specs.Float.Ieee.{of_bits}
@@ -8,6 +9,8 @@ use Rattle.seconds.specs.declared.BufferSeconds.{BufferSeconds}
 use Rattle.player.specs.declared.LoopState.{LoopState}
 use Rattle.player.specs.declared.RenderState.{RenderState}
 use Rattle.buffer.specs.declared.Shape.{Shape}
+use Rattle.tolerances.specs.Tolerances.{defaults}
+use Rattle.player.specs.declared.PlayerOptions.{PlayerOptions}
 use Rattle.player.specs.declared.Player.{Player}
 
 abbrev pub shape_of : ℕ → ℕ → Float → Shape
@@ -26,9 +29,13 @@ render_of position started entered elapsed aligned ended = record {
   ended = ended;
 }
 
--- a player for an output rate that has received nothing yet
-unfoldable pub fresh : Float → Player
-fresh rate = record {
+-- what a player is made with, beside its output rate, where nothing else is said
+abbrev pub default_options : PlayerOptions
+default_options = record { tolerances = defaults }
+
+-- a player for an output rate, with these options, that has received nothing yet
+unfoldable pub fresh_with : Float → PlayerOptions → Player
+fresh_with rate options = record {
   sample_rate = rate;
   start_time = context never;
   stop_time = context never;
@@ -41,7 +48,12 @@ fresh rate = record {
   shape = shape_of 0 0 (of_bits binary32 0);
   has_block = false;
   block_time = context none;
+  tolerances = options.tolerances;
 }
+
+-- the one made for a rate alone has the defaults
+unfoldable pub fresh : Float → Player
+fresh rate = fresh_with rate default_options
 
 -- what a message may change: the mark that a start was received, the times and the loop
 abbrev pub told : Player → Bool → ContextSeconds → ContextSeconds → BufferSeconds → BufferSeconds → LoopState → Player
@@ -58,6 +70,7 @@ told p has_start start stop offset duration loop = record {
   shape = p.shape;
   has_block = p.has_block;
   block_time = p.block_time;
+  tolerances = p.tolerances;
 }
 
 -- what the buffer call changes, before the loop points are clamped
@@ -75,6 +88,7 @@ given p shape = record {
   shape = shape;
   has_block = p.has_block;
   block_time = p.block_time;
+  tolerances = p.tolerances;
 }
 
 -- what a block may change: the start time, the offset, what is rendered, and the last accepted block's time
@@ -92,4 +106,5 @@ moved p start offset render time = record {
   shape = p.shape;
   has_block = true;
   block_time = context time;
+  tolerances = p.tolerances;
 }

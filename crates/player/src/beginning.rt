@@ -59,6 +59,7 @@ impl Player {
             buffer_duration: BufferSeconds(self.clip_seconds()),
             sampling_ratio: self.sampling_ratio(),
             sample_rate: f64::from(self.sample_rate),
+            tolerances: self.tolerances,
         }
     }
 

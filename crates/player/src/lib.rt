@@ -11,6 +11,7 @@ mod refusal;
 
 use buffer::Shape;
 use seconds::{BufferSeconds, ContextSeconds};
+use tolerances::Tolerances;
 
 #[repr(C)]
 #[derive(Clone, Copy, Default)]
@@ -32,6 +33,14 @@ pub struct RenderState {
     pub ended: bool,
 }
 
+// What a player is made with, beside its output rate. What else the making of a player will be told
+// stands here, with its check there.
+#[repr(C)]
+#[derive(Clone, Copy, Default)]
+pub struct PlayerOptions {
+    pub tolerances: Tolerances,
+}
+
 // C sees this record, so a start, a buffer and a block's time that may be missing are each a flag
 // with its value beside it, and no `Option`.
 #[repr(C)]
@@ -49,6 +58,7 @@ pub struct Player {
     pub shape: Shape,
     pub has_block: bool,
     pub block_time: ContextSeconds,
+    pub tolerances: Tolerances,
 }
 
 #[derive(Clone, Copy)]

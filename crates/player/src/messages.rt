@@ -1,10 +1,10 @@
 // The control messages and the buffer call.
 ghost use Rattle.std.specs.Prelude.{◌≡◌, length};
-ghost use Rattle.player.specs.Record.{fresh};
-ghost use Rattle.player.specs.Messages.{made, buffered, handled, bad_time, clamped_start, clamped_end, clamped};
+ghost use Rattle.player.specs.Record.{fresh_with};
+ghost use Rattle.player.specs.Messages.{made, made_with, buffered, handled, bad_time, clamped_start, clamped_end, clamped};
 ghost use Rattle.player.specs.Messages.{on_start, on_stop, on_loop, on_loop_start, on_loop_end};
 
-use super::{ControlMessage, Player};
+use super::{ControlMessage, Player, PlayerOptions};
 use buffer::{Refusal, Shape, check_rate, check_shape};
 use rounding::is_finite;
 use seconds::{BufferSeconds, ContextSeconds, NEVER};
@@ -46,12 +46,13 @@ fn clamped_end(at: f64, duration: f64) -> f64
 
 impl Player {
     // A player that has received nothing yet.
-    #[tactic(auto, unfolding(crate::specs::Record::fresh))]
-    fn fresh(sample_rate: f32) -> Self
-        ensures { result ≡ fresh sample_rate }
+    #[tactic(auto, unfolding(crate::specs::Record::fresh_with))]
+    fn fresh_with(sample_rate: f32, options: PlayerOptions) -> Self
+        ensures { result ≡ fresh_with sample_rate options }
     {
         Self {
             sample_rate,
+            tolerances: options.tolerances,
             start_time: ContextSeconds(NEVER),
             stop_time: ContextSeconds(NEVER),
             duration: BufferSeconds(NEVER),
@@ -59,13 +60,21 @@ impl Player {
         }
     }
 
-    // A fresh player for an output rate.
-    #[tactic(auto, unfolding(crate::specs::Messages::made))]
+    // A fresh player for an output rate, with these options.
+    #[tactic(auto, unfolding(crate::specs::Messages::made_with))]
+    pub fn with_options(sample_rate: f32, options: PlayerOptions) -> Result<Player, Refusal>
+        ensures { result ≡ made_with sample_rate options }
+    {
+        check_rate(sample_rate)?;
+        Ok(Player::fresh_with(sample_rate, options))
+    }
+
+    // A fresh player for an output rate, with the defaults.
+    #[tactic(auto, unfolding(crate::specs::Record::fresh, crate::specs::Messages::made, crate::specs::Messages::made_with))]
     pub fn new(sample_rate: f32) -> Result<Player, Refusal>
         ensures { result ≡ made sample_rate }
     {
-        check_rate(sample_rate)?;
-        Ok(Player::fresh(sample_rate))
+        Player::with_options(sample_rate, PlayerOptions::default())
     }
 
     // The loop points brought into the clip, if there is one.

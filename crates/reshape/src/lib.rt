@@ -11,7 +11,7 @@ mod parting;
 mod parts;
 mod resampling;
 
-pub use converting::{convert, converted_shape};
+pub use converting::{convert, convert_with, converted_shape, converted_shape_with};
 pub use joining::{extend, extended_shape};
 pub use known::known_reshape;
 pub use parting::{split, split_shapes};

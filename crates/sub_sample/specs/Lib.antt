@@ -1,4 +1,3 @@
--- The sub-sample block: the near tests with today's tolerance, a sample after another, and what the samples play.
-pub mod Near
+-- The sub-sample block: a sample after another, and what the samples play.
 pub mod SubSample
 pub mod Infos

@@ -1,9 +1,10 @@
--- The sub-sample block (document 01, 'Sub-sample block'; the Rust's slow track), sample by sample in the Rust's order. Definitions only.
+-- The sub-sample block (document 01, 'Sub-sample block'; the Rust's slow track), sample by sample in the Rust's order. Every near test receives the
+-- tolerances that the player was made with (document 02, 2.7). Definitions only.
 use Rattle.std.specs.Prelude.{Bool, true, not, ◌&&◌, ◌||◌, cond, ℕ, zero, suc, ltb, Float, Option, None, Some}
 use Rattle.std.specs.Float.{binary64}
 use Rattle.std.specs.Float.Ieee.{add, sub, mul, lt, le, to_unsigned}
 use Rattle.rounding.specs.Rounding.{whole, magnitude, floor, rem_euclid}
-use Rattle.sub_sample.specs.Near.{is_near, is_near_zero}
+use Rattle.tolerances.specs.Tolerances.{is_near, is_near_zero}
 use Rattle.seconds.specs.Seconds.{context, in_clip, none}
 use Rattle.sub_sample.specs.declared.Settings.{Settings}
 use Rattle.sub_sample.specs.declared.Playhead.{Playhead}
@@ -29,8 +30,8 @@ instant_of s i = add binary64 s.block_time.0 (mul binary64 (whole i) s.dt)
 -- ---- before the start is tested: a start near the sample's instant, and an elapsed time near the duration, are taken as equal to it
 unfoldable pub snapped : Settings → Float → Playhead → Playhead
 snapped s now h =
-    head_of (cond (not h.started && is_near now h.start_time.0) now h.start_time.0) h.offset.0 h.buffer_time.0
-    (cond (is_near h.buffer_time_elapsed.0 s.duration.0) s.duration.0 h.buffer_time_elapsed.0) h.started h.entered_loop
+    head_of (cond (not h.started && is_near s.tolerances now h.start_time.0) now h.start_time.0) h.offset.0 h.buffer_time.0
+    (cond (is_near s.tolerances h.buffer_time_elapsed.0 s.duration.0) s.duration.0 h.buffer_time_elapsed.0) h.started h.entered_loop
 
 -- before the start, at or after the stop, or with the duration reached, a sample plays nothing
 unfoldable pub is_idle : Settings → Float → Playhead → Bool
@@ -63,8 +64,8 @@ begun s now h =
 -- near the loop's end, then near its start, the position is taken as equal to it
 unfoldable pub snapped_to_loop : Settings → Float → Float
 snapped_to_loop s x =
-    let y = cond (is_near x s.loop_end.0) s.loop_end.0 x in
-    cond (is_near y s.loop_start.0) s.loop_start.0 y
+    let y = cond (is_near s.tolerances x s.loop_end.0) s.loop_end.0 x in
+    cond (is_near s.tolerances y s.loop_start.0) s.loop_start.0 y
 
 -- begun before the loop's end and now at or past its start, or begun at or past its end and now before it
 unfoldable pub enters : Settings → Float → Float → Bool
@@ -87,9 +88,9 @@ turned s h =
     h
 
 -- ---- near zero, the position is zero
-unfoldable pub settled : Playhead → Playhead
-settled h =
-    head_of h.start_time.0 h.offset.0 (cond (is_near_zero h.buffer_time.0) none h.buffer_time.0)
+unfoldable pub settled : Settings → Playhead → Playhead
+settled s h =
+    head_of h.start_time.0 h.offset.0 (cond (is_near_zero s.tolerances h.buffer_time.0) none h.buffer_time.0)
     h.buffer_time_elapsed.0 h.started h.entered_loop
 
 -- ---- the frame and the fraction at a position within the clip
@@ -115,7 +116,7 @@ advanced s h =
 
 -- the playhead of a sample that plays
 unfoldable pub placed : Settings → Float → Playhead → Playhead
-placed s now h = settled (turned s (begun s now h))
+placed s now h = settled s (turned s (begun s now h))
 
 unfoldable pub stepped : Settings → ℕ → Playhead → Playhead
 stepped s i h =

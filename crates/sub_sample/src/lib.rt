@@ -7,6 +7,7 @@ mod stepping;
 
 pub use filling::fill_infos;
 use seconds::{BufferSeconds, ContextSeconds, FrameNumber};
+use tolerances::Tolerances;
 
 // What stays the same over the samples of a sub-sample block.
 #[derive(Clone, Copy)]
@@ -24,6 +25,7 @@ pub struct Settings {
     pub buffer_duration: BufferSeconds,
     pub sampling_ratio: f64,
     pub sample_rate: f64,
+    pub tolerances: Tolerances,
 }
 
 // What a sample of a sub-sample block hands on to the next.

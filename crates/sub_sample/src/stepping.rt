@@ -1,21 +1,14 @@
 // The sub-sample block: where the playhead stands for each sample, and what the sample plays.
 ghost use Rattle.std.specs.Prelude.{◌≡◌, not, ◌&&◌, cond};
 ghost use Rattle.std.specs.Float.Ieee.{lt, le};
-ghost use Rattle.sub_sample.specs.Near.{is_near};
+ghost use Rattle.tolerances.specs.Tolerances.{is_near};
 ghost use Rattle.seconds.specs.Seconds.{none};
 ghost use Rattle.sub_sample.specs.SubSample.{instant_of, snapped, is_idle, at_least_zero, at_most, start_offset, begun};
 ghost use Rattle.sub_sample.specs.SubSample.{snapped_to_loop, enters, wrapped, turned, settled, playhead, info_at, advanced, placed, stepped, info_of_sample};
 
 use super::{PlaybackInfo, Playhead, SampleStep, Settings};
-use rounding::{BinaryFloat, NEAR_TOLERANCE, floor, near, near_zero, rem_euclid, truncate, whole};
+use rounding::{BinaryFloat, floor_counted, rem_euclid, whole};
 use seconds::{BufferSeconds, ContextSeconds, FrameNumber};
-
-// x, or `to` where it is near.
-fn snapped_to(x: f64, to: f64) -> f64
-    ensures { result ≡ cond (is_near x to) to x }
-{
-    if near(x, to, NEAR_TOLERANCE) { to } else { x }
-}
 
 // `x.max(0.)`: 0 at -0, where the library's `max` may give either zero.
 fn at_least_zero(x: f64) -> f64
@@ -31,45 +24,39 @@ fn at_most(x: f64, y: f64) -> f64
     if x < y { x } else { y }
 }
 
-impl Playhead {
-    // The start time, or a sample's instant where they are near and nothing was played yet.
-    fn snapped_start(self, current_time: f64) -> f64
-        ensures { result
-            ≡ cond (not self.started && is_near current_time self.start_time.0) current_time self.start_time.0 }
-    {
-        if !self.started && near(current_time, self.start_time.0, NEAR_TOLERANCE) {
-            current_time
-        } else {
-            self.start_time.0
-        }
-    }
-
-    // Near zero, the position is zero.
-    #[tactic(auto, unfolding(crate::specs::SubSample::settled))]
-    fn settled(self) -> Self
-        ensures { result ≡ settled self }
-    {
-        if near_zero(self.buffer_time.0, NEAR_TOLERANCE) {
-            Self {
-                buffer_time: BufferSeconds(0.0),
-                ..self
-            }
-        } else {
-            self
-        }
-    }
-}
-
 // The steps of a sample. Its instant and the playhead go beside the settings, since each step has a playhead
 // of its own.
 impl Settings {
+    // x, or `to` where it is near.
+    fn snapped_to(self, x: f64, to: f64) -> f64
+        ensures { result ≡ cond (is_near self.tolerances x to) to x }
+    {
+        if self.tolerances.is_near(x, to) {
+            to
+        } else {
+            x
+        }
+    }
+
+    // The start time, or a sample's instant where they are near and nothing was played yet.
+    fn snapped_start(self, current_time: f64, h: Playhead) -> f64
+        ensures { result
+            ≡ cond (not h.started && is_near self.tolerances current_time h.start_time.0) current_time h.start_time.0 }
+    {
+        if !h.started && self.tolerances.is_near(current_time, h.start_time.0) {
+            current_time
+        } else {
+            h.start_time.0
+        }
+    }
+
     // A start near the sample's instant, and an elapsed time near the duration, are taken as equal to it.
     #[tactic(auto, unfolding(crate::specs::SubSample::snapped))]
     fn snapped(self, current_time: f64, h: Playhead) -> Playhead
         ensures { result ≡ snapped self current_time h }
     {
-        let start = h.snapped_start(current_time);
-        let elapsed = snapped_to(h.buffer_time_elapsed.0, self.duration.0);
+        let elapsed = self.snapped_to(h.buffer_time_elapsed.0, self.duration.0);
+        let start = self.snapped_start(current_time, h);
         Playhead {
             start_time: ContextSeconds(start),
             buffer_time_elapsed: BufferSeconds(elapsed),
@@ -146,7 +133,7 @@ impl Settings {
     fn snapped_to_loop(self, x: f64) -> f64
         ensures { result ≡ snapped_to_loop self x }
     {
-        snapped_to(snapped_to(x, self.loop_end.0), self.loop_start.0)
+        self.snapped_to(self.snapped_to(x, self.loop_end.0), self.loop_start.0)
     }
 
     // The playhead enters the loop: begun before its end and now at or past its start, or begun at or past
@@ -190,6 +177,21 @@ impl Settings {
         }
     }
 
+    // Near zero, the position is zero.
+    #[tactic(auto, unfolding(crate::specs::SubSample::settled))]
+    fn settled(self, h: Playhead) -> Playhead
+        ensures { result ≡ settled self h }
+    {
+        if self.tolerances.is_near_zero(h.buffer_time.0) {
+            Playhead {
+                buffer_time: BufferSeconds(0.0),
+                ..h
+            }
+        } else {
+            h
+        }
+    }
+
     // The position in frames.
     #[tactic(auto, unfolding(crate::specs::SubSample::playhead))]
     fn playhead_at(self, x: f64) -> f64
@@ -204,8 +206,8 @@ impl Settings {
         ensures { result ≡ info_at self x }
     {
         let playhead = self.playhead_at(x);
-        let playhead_floored = floor(playhead);
-        let frame = truncate(playhead_floored) as usize;
+        let (playhead_floored, count) = floor_counted(playhead);
+        let frame = count as usize;
         if x >= 0.0 && x < self.buffer_duration.0 && frame < self.buffer_length {
             Some(PlaybackInfo {
                 prev_frame_index: FrameNumber(frame),
@@ -234,7 +236,7 @@ impl Settings {
     fn placed(self, current_time: f64, h: Playhead) -> Playhead
         ensures { result ≡ placed self current_time h }
     {
-        self.turned(self.begun(current_time, h)).settled()
+        self.settled(self.turned(self.begun(current_time, h)))
     }
 
     // Sample i's instant.

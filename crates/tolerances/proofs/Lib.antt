@@ -1,0 +1,2 @@
+-- What the contracts of `tolerances` rest on.
+pub mod Known

@@ -1,0 +1,3 @@
+-- The tolerances as settings, and what is known of them.
+pub mod Tolerances
+pub mod Known
