@@ -12,8 +12,9 @@ use lib.Ieee.Bits.{is_true}
 use Rattle.buffer.specs.Limits.{valid_rate}
 use Rattle.buffer.specs.declared.Shape.{Shape}
 use Rattle.seconds.specs.Seconds.{none, never}
-use Rattle.player.specs.Record.{shape_of, fresh}
+use Rattle.player.specs.Record.{shape_of, fresh_with}
 use Rattle.player.specs.declared.Player.{Player}
+use Rattle.player.specs.declared.PlayerOptions.{PlayerOptions}
 use Rattle.player.specs.declared.ControlMessage.TheVariants.{Start, Stop, Loop, LoopStart, LoopEnd}
 use Rattle.tape.specs.Tape as tape
 use Rattle.tape.specs.Tape.{Tape, Step, stepped, stepped_all, stays_off}
@@ -153,15 +154,15 @@ first_block x (e ∷ es) h = go (is_block_call e.call) refl h (first_block x es)
     go false i k rest = rest k
 
 -- put to use
-module _ (rate : Float) (f : T (fits binary32 rate)) (t : T (valid_rate rate)) (calls : List Call) (ty : T (all_typed calls)) (h : Begins rate (accepted (fresh rate) calls)) where
+module _ (rate : Float) (options : PlayerOptions) (f : T (fits binary32 rate)) (t : T (valid_rate rate)) (calls : List Call) (ty : T (all_typed calls)) (h : Begins rate (accepted (fresh_with rate options) calls)) where
   abbrev es : List Event
-  es = accepted (fresh rate) calls
+  es = accepted (fresh_with rate options) calls
 
   abbrev pub got : Received
   got = receive_all nothing (opening es)
 
   abbrev pub setup : Setup
-  setup = record { rate = rate; channels = h.clip.channels; frames = h.clip.frames; stop = stop_of (gathered stop_in (opening es)) }
+  setup = record { rate = rate; channels = h.clip.channels; frames = h.clip.frames; stop = stop_of (gathered stop_in (opening es)); tolerances = options.tolerances }
 
   abbrev pub first : State
   first = record {
@@ -188,10 +189,10 @@ module _ (rate : Float) (f : T (fits binary32 rate)) (t : T (valid_rate rate)) (
   stop_is : got.stop ≡ stop_of (gathered stop_in (opening es))
   stop_is = received (λ (a : Received). a.stop) stop_in (λ s. s) stop_one nothing (opening es) ∙ only_stop (gathered stop_in (opening es)) h.few_stops
 
-  all_open : (after_all (fresh rate) (opening es) ≡ opened rate got) × SoundIf got
+  all_open : (after_all (fresh_with rate options) (opening es) ≡ opened rate options got) × SoundIf got
   all_open =
-      open_all some_seconds rate nothing (fresh rate) (opening es) (fresh_is rate) (λ (e : false ≡ true). absurd (false≢true e))
-      (chain_opening (fresh rate) es (chain (fresh rate) calls ty)) (no_blocks es) h.no_points
+      open_all some_seconds rate options nothing (fresh_with rate options) (opening es) (fresh_is rate options) (λ (e : false ≡ true). absurd (false≢true e))
+      (chain_opening (fresh_with rate options) es (chain (fresh_with rate options) calls ty)) (no_blocks es) h.no_points
 
   has_is : got.has_buffer ≡ true
   unfolding clip_part held_clip
@@ -216,10 +217,10 @@ module _ (rate : Float) (f : T (fits binary32 rate)) (t : T (valid_rate rate)) (
   pub sound : Sound h.clip.channels h.clip.frames rate
   sound = subst (λ (s : Shape). Sound s.channels s.frames s.rate) shape_is (all_open.1 has_is)
 
-  opened_is : opened rate got ≡ standing setup first
+  opened_is : opened rate options got ≡ standing setup first
   opened_is = simp (start_is, stop_is, offset_is, length_is, has_is, shape_is)
 
-  pub first_is : after_all (fresh rate) (opening es) ≡ standing setup first
+  pub first_is : after_all (fresh_with rate options) (opening es) ≡ standing setup first
   first_is = all_open.0 ∙ opened_is
 
   pub q : Rate rate
@@ -254,7 +255,7 @@ module _ (rate : Float) (f : T (fits binary32 rate)) (t : T (valid_rate rate)) (
       → Moment ground X (begun got.looped) first (playing es)
   moment X only off = record {
     inv = alive ready refl refl;
-    chain = subst (λ (p : Player). Chain p (playing es)) first_is (chain_playing (fresh rate) es (chain (fresh rate) calls ty));
+    chain = subst (λ (p : Player). Chain p (playing es)) first_is (chain_playing (fresh_with rate options) es (chain (fresh_with rate options) calls ty));
     only = only;
     ordered = inr (first_block first es h.in_time);
     premised = record { cleared = refl; fit = λ e. absurd (false≢true e); off = off };

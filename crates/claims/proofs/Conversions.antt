@@ -17,7 +17,8 @@ use Rattle.rounding.specs.Rounding.{whole, ceil, truncate, lifted}
 use Rattle.rounding.proofs.Error.{RoundedAny, round_near}
 use Rattle.rounding.proofs.Operations.{mul_at, div_at, mul_near_any}
 use Rattle.rounding.proofs.Exact.{significand, value_unique, whole_exact, round-zero}
-use Rattle.reshape.specs.Converting.{relabels, converted_length, converted_shape, playhead}
+use Rattle.tolerances.specs.declared.Tolerances.{Tolerances}
+use Rattle.reshape.specs.Converting.{relabels_with, converted_length, converted_shape_with, playhead}
 use Rattle.rounding.proofs.Counted.{whole_count}
 use Rattle.rounding.proofs.Wholes.{lifted_same}
 use Rattle.claims.proofs.Units.{rate_pos, rate_of}
@@ -181,10 +182,10 @@ pub record Accepted (shape : Shape) (len : ℕ) (rate : Float) (made : Shape) : 
   pub few : converted_length shape rate ≤ 16777216
   pub length : made.frames ≡ converted_length shape rate
 
-pub accepted : (shape : Shape) (len : ℕ) (rate : Float) (made : Shape) → Converts shape len rate made → Accepted shape len rate made
-unfolding converted_shape
-accepted shape len rate made h =
-    go (valid_shape shape.channels shape.frames len) (valid_rate shape.rate) (valid_rate rate) (relabels shape rate) (nat_lt max_frames (converted_length shape rate))
+pub accepted : (t : Tolerances) (shape : Shape) (len : ℕ) (rate : Float) (made : Shape) → Converts t shape len rate made → Accepted shape len rate made
+unfolding converted_shape_with
+accepted t shape len rate made h =
+    go (valid_shape shape.channels shape.frames len) (valid_rate shape.rate) (valid_rate rate) (relabels_with t shape rate) (nat_lt max_frames (converted_length shape rate))
     refl refl refl h.changes refl h.accepted
   where
     ok_same : (p : Result Shape Refusal) {x y : Shape} → p ≡ Ok x → p ≡ Ok y → x ≡ y
@@ -212,9 +213,9 @@ accepted shape len rate made h =
     go true false z r l a b c d e k = absurd (cc)
     go false w z r l a b c d e k = absurd (cc)
 
-pub instants : (shape : Shape) (len : ℕ) (rate : Float) (made : Shape) → Converts shape len rate made → (i : ℕ) → i < made.frames → SameInstant shape.rate rate i
-instants shape len rate made h i l =
-    let a = accepted shape len rate made h in
+pub instants : (t : Tolerances) (shape : Shape) (len : ℕ) (rate : Float) (made : Shape) → Converts t shape len rate made → (i : ℕ) → i < made.frames → SameInstant shape.rate rate i
+instants t shape len rate made h i l =
+    let a = accepted t shape len rate made h in
     let r = rate_of shape.rate h.source_single a.own in
     let g = rate_of rate h.target_single a.new in
     let m : i < converted_length shape rate = subst (λ (k : ℕ). i < k) a.length l in

@@ -8,7 +8,8 @@ use lib.Ieee.{of_bits, of_int, round, sum, add, mul, div, rem, lt, le, eq, ne, f
 use Rattle.rounding.specs.Rounding.{round_away}
 use Rattle.buffer.specs.Limits.{valid_rate, valid_shape, duration}
 use Rattle.seconds.specs.Seconds.{none, never, dt, block_seconds, block_end}
-use Rattle.player.specs.Record.{fresh}
+use Rattle.player.specs.declared.PlayerOptions.{PlayerOptions}
+use Rattle.player.specs.Record.{fresh_with}
 use Rattle.player.specs.Messages.{clamped_start, clamped_end, clamped, bad_time, on_start, on_stop, on_loop, handled, buffered}
 use Rattle.aligned.specs.Aligned.{first_frame, ends_within, played, next_frame, last_wrap, aligned_position}
 use Rattle.sub_sample.specs.SubSample.{head_at}
@@ -28,11 +29,11 @@ abbrev ownStart : Started
 ownStart = record { when = none; offset = none; duration = never }
 
 -- a list is met by what its accepted calls hold
-met : (calls : List Call) (blocks : ℕ) → T (all_typed calls) → gathered clip_in (opening (accepted (fresh rate) calls)) ≡ ownClip ∷ [] → gathered start_in (opening (accepted (fresh rate) calls)) ≡ ownStart ∷ []
-    → T (starts_in_time none (playing (accepted (fresh rate) calls))) → length (gathered switch_in (opening (accepted (fresh rate) calls))) ≤ 1 → length (gathered stop_in (opening (accepted (fresh rate) calls))) ≤ 1
-    → gathered point_in (opening (accepted (fresh rate) calls)) ≡ [] → OnlyBlocks frames (playing (accepted (fresh rate) calls)) → length (playing (accepted (fresh rate) calls)) ≡ blocks → Met calls blocks
+met : (options : PlayerOptions) (calls : List Call) (blocks : ℕ) → T (all_typed calls) → gathered clip_in (opening (accepted (fresh_with rate options) calls)) ≡ ownClip ∷ [] → gathered start_in (opening (accepted (fresh_with rate options) calls)) ≡ ownStart ∷ []
+    → T (starts_in_time none (playing (accepted (fresh_with rate options) calls))) → length (gathered switch_in (opening (accepted (fresh_with rate options) calls))) ≤ 1 → length (gathered stop_in (opening (accepted (fresh_with rate options) calls))) ≤ 1
+    → gathered point_in (opening (accepted (fresh_with rate options) calls)) ≡ [] → OnlyBlocks frames (playing (accepted (fresh_with rate options) calls)) → length (playing (accepted (fresh_with rate options) calls)) ≡ blocks → Met options calls blocks
 unfolding valid_rate of_bits of_int round lt le eq fits
-met calls blocks typed clips starts time switches stops points plain played = record {
+met options calls blocks typed clips starts time switches stops points plain played = record {
   single = tt;
   valid = tt;
   typed = typed;
@@ -55,22 +56,23 @@ met calls blocks typed clips starts time switches stops points plain played = re
 
 pub instances : Instances
 unfolding replaced unlooked checked_cents rendered_cents bad_cents factor_of octaves above entries accepted accepts next opening playing handled buffered on_start on_stop
-    on_loop bad_time clamped clamped_start clamped_end fresh valid_rate valid_shape duration rendered checked bad_block_time bad_rate bad_samples plan is_aligned start_at
+    on_loop bad_time clamped clamped_start clamped_end fresh_with valid_rate valid_shape duration rendered checked bad_block_time bad_rate bad_samples plan is_aligned start_at
     aligned_plan sub_sample_plan settings first_head head_at has_ended turns_over first_frame ends_within played next_frame last_wrap aligned_position dt block_seconds
     block_end idle round_away of_bits of_int round sum add mul div rem lt le eq ne neg sub to_unsigned fits
-instances = (
-  met looped_calls 2 tt refl refl tt (lit≤ tt) (lit≤ tt) refl ((refl, refl, refl), ((refl, refl, refl), tt)) refl,
-  met plain_calls 2 tt refl refl tt (lit≤ tt) (lit≤ tt) refl ((refl, refl, refl), ((refl, refl, refl), tt)) refl,
-  met stopped_calls 3 tt refl refl tt (lit≤ tt) (lit≤ tt) refl ((refl, refl, refl), ((refl, refl, refl), ((refl, refl, refl), tt))) refl,
-  record {
+instances = record {
+  looped = λ options. met options looped_calls 2 tt refl refl tt (lit≤ tt) (lit≤ tt) refl ((refl, refl, refl), ((refl, refl, refl), tt)) refl;
+  plain = λ options. met options plain_calls 2 tt refl refl tt (lit≤ tt) (lit≤ tt) refl ((refl, refl, refl), ((refl, refl, refl), tt)) refl;
+  stopped = λ options.
+      met options stopped_calls 3 tt refl refl tt (lit≤ tt) (lit≤ tt) refl ((refl, refl, refl), ((refl, refl, refl), ((refl, refl, refl), tt))) refl;
+  longer = λ options. record {
     typed = tt;
     left_out = refl;
-    met = met (replaced (fresh rate) longer_calls) 2 tt refl refl tt (lit≤ tt) (lit≤ tt) refl ((refl, refl, refl), ((refl, refl, refl), tt)) refl;
-  },
-  record {
+    met = met options (replaced (fresh_with rate options) longer_calls) 2 tt refl refl tt (lit≤ tt) (lit≤ tt) refl ((refl, refl, refl), ((refl, refl, refl), tt)) refl;
+  };
+  previewed = λ options. record {
     typed = tt;
     left_out = refl;
-    met = met (replaced (fresh rate) previewed_calls) 2 tt refl refl tt (lit≤ tt) (lit≤ tt) refl ((refl, refl, refl), ((refl, refl, refl), tt)) refl;
-  },
-  record { between = refl; lengths = refl; short = refl; far = refl },
-)
+    met = met options (replaced (fresh_with rate options) previewed_calls) 2 tt refl refl tt (lit≤ tt) (lit≤ tt) refl ((refl, refl, refl), ((refl, refl, refl), tt)) refl;
+  };
+  previews = λ options. record { between = refl; lengths = refl; short = refl; far = refl };
+}

@@ -5,7 +5,7 @@ use Rattle.lists.specs.Table.{table}
 use Rattle.rounding.specs.Rounding.{round_away}
 use Rattle.buffer.specs.Limits.{valid_rate, valid_shape, duration}
 use Rattle.seconds.specs.Seconds.{dt, block_seconds, block_end}
-use Rattle.player.specs.Record.{fresh}
+use Rattle.player.specs.Record.{fresh, fresh_with}
 use Rattle.player.specs.Messages.{clamped_start, clamped_end, clamped, bad_time, on_start, on_loop, handled, buffered}
 use Rattle.aligned.specs.Aligned.{first_frame, ends_within, played, next_frame, aligned_sample, last_wrap, aligned_position}
 use Rattle.player.specs.Block.{start_at, is_aligned, has_ended, turns_over, aligned_plan, plan}
@@ -21,7 +21,7 @@ unfolding KnownLoopPoints clamped_start clamped_end of_bits lt le eq
 loop-points = (refl, refl, refl, refl, refl)
 
 playback : KnownPlayback
-unfolding KnownPlayback next handled buffered on_start on_loop bad_time clamped clamped_start clamped_end fresh valid_rate valid_shape duration plan is_aligned start_at aligned_plan has_ended turns_over first_frame ends_within aligned_sample played next_frame last_wrap aligned_position dt block_seconds block_end table round_away of_bits of_int round sum add mul div rem lt le eq ne neg sub to_unsigned
+unfolding KnownPlayback next handled buffered on_start on_loop bad_time clamped clamped_start clamped_end fresh fresh_with valid_rate valid_shape duration plan is_aligned start_at aligned_plan has_ended turns_over first_frame ends_within aligned_sample played next_frame last_wrap aligned_position dt block_seconds block_end table round_away of_bits of_int round sum add mul div rem lt le eq ne neg sub to_unsigned
 playback = (refl, refl, refl)
 
 pub known_frames : KnownRounding → KnownFused → KnownBuffer → KnownReshape → KnownFrames

@@ -26,3 +26,5 @@ pub mod SwitchInstances
 pub mod Known
 pub mod Conversions
 pub mod Multiples
+pub mod Tolerances
+pub mod AsBefore

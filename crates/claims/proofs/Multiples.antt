@@ -16,7 +16,10 @@ use Rattle.rounding.proofs.Exact.{whole_exact, round-zero, round_same_float, two
 use Rattle.rounding.proofs.Sum.{sum_alike, sum_more, sum_none}
 use Rattle.rounding.proofs.Counted.{floor_is, floor_count}
 use Rattle.rounding.proofs.Compare.{lt_at, eq_value}
-use Rattle.reshape.specs.Converting.{relabels, converted_length, converted_shape, playhead, previous, fraction, mixed, resampled, converted_samples}
+use Rattle.tolerances.specs.declared.Tolerances.{Tolerances}
+use Rattle.tolerances.specs.Tolerances.{tolerances_of, defaults}
+use Rattle.seconds.specs.Seconds.{none}
+use Rattle.reshape.specs.Converting.{relabels_with, converted_length, converted_shape_with, playhead, previous, fraction, mixed, resampled, converted_samples_with}
 use Rattle.buffer.specs.declared.Shape.{Shape}
 use Rattle.buffer.specs.Limits.{valid_shape, valid_rate}
 use Rattle.rounding.specs.Near.{float_eq}
@@ -28,7 +31,7 @@ use Rattle.lists.specs.Rows.{rows}
 use Rattle.lists.specs.Table.{table, length_table, get_or_table}
 use Rattle.buffer.specs.Channels.{channel, length_channel, channel_rows}
 use Rattle.reshape.specs.Known.{single, mono}
-use Rattle.claims.specs.Conversions.{frame_at, Converts, KeepsFrames, KeepsTime}
+use Rattle.claims.specs.Conversions.{above, half_above, half, frame_at, Converts, KeepsFrames, KeepsTime}
 
 -- ---- (1 - 0) × a + 0 × b is a in value: a zero of either sign is added to a
 abbrev nought : Bool → Float
@@ -225,22 +228,22 @@ times_lt : (m j n : ℕ) → 0 < m → j < n → m * j < m * n
 times_lt m j n M l = omega (arith, mul-lt-mul_of_pos_right l M)
 
 -- a frame of the result is `resampled` of the channel
-result_frame : (shape : Shape) (rate : Float) (made : Shape) (samples : List ℕ) (c i : ℕ) → relabels shape rate ≡ false → made.frames ≡ converted_length shape rate
+result_frame : (t : Tolerances) (shape : Shape) (rate : Float) (made : Shape) (samples : List ℕ) (c i : ℕ) → relabels_with t shape rate ≡ false → made.frames ≡ converted_length shape rate
     → c < shape.channels → i < made.frames
-    → frame_at (converted_samples shape samples rate) made.frames c i ≡ resampled shape.rate rate (channel samples shape.frames c) i
-unfolding converted_samples
-result_frame shape rate made samples c i changes long C I =
+    → frame_at (converted_samples_with t shape samples rate) made.frames c i ≡ resampled shape.rate rate (channel samples shape.frames c) i
+unfolding converted_samples_with
+result_frame t shape rate made samples c i changes long C I =
     let f : ℕ → List ℕ = λ k. table (converted_length shape rate) (resampled shape.rate rate (channel samples shape.frames k)) in
     ap₂ (λ (b : Bool) (n : ℕ). slice_index (channel (cond b samples (rows shape.channels f)) n c) i) changes long
     ∙ ap (λ (l : List ℕ). slice_index l i) (channel_rows (converted_length shape rate) shape.channels f (λ k b. length_table (converted_length shape rate) (resampled shape.rate rate (channel samples shape.frames k))) c C)
     ∙ get_or_table (converted_length shape rate) (resampled shape.rate rate (channel samples shape.frames c)) i 0 (subst (λ (x : ℕ). i < x) long I)
 
-module _ (shape : Shape) (len : ℕ) (rate : Float) (made : Shape) (h : Converts shape len rate made) (s m : ℕ) (own : shape.rate ≡ single s) (new : rate ≡ single (m * s)) where
-  multiple : KeepsFrames shape len rate made m
+module _ (t : Tolerances) (shape : Shape) (len : ℕ) (rate : Float) (made : Shape) (h : Converts t shape len rate made) (s m : ℕ) (own : shape.rate ≡ single s) (new : rate ≡ single (m * s)) where
+  multiple : KeepsFrames t shape len rate made m
   multiple =
       let Q = 2 ^ 149 in
       let n = shape.frames in
-      let a = accepted shape len rate made h in
+      let a = accepted t shape len rate made h in
       let r = rate_of shape.rate h.source_single a.own in
       let g = rate_of rate h.target_single a.new in
       let S : s ≤ 768000 = rate_bound s (subst (λ (x : Float). T (valid_rate x)) own a.own) in
@@ -254,14 +257,14 @@ module _ (shape : Shape) (len : ℕ) (rate : Float) (made : Shape) (h : Converts
       ratio_is shape rate r.units g.units r.value g.value r.low r.high g.low g.high a.short
       ∙ round_same binary64 false g.units r.units m 1 R0 (lit< tt) (ratio_whole m s Q r.units g.units R G) ∙ whole_is m in
       let len_is : converted_length shape rate ≡ n * m = counted n m rate shape refl a.short few ratio in
-      let t : made.frames ≡ m * n = a.length ∙ len_is ∙ mul_comm n m in
+      let long_is : made.frames ≡ m * n = a.length ∙ len_is ∙ mul_comm n m in
       record {
-        times = t;
+        times = long_is;
         kept = λ samples c j l C J f k.
             let whole : length samples ≡ shape.frames * shape.channels = l ∙ a.full ∙ mul_comm shape.channels n in
             let long : length (channel samples n c) ≡ n = length_channel samples n shape.channels c whole C in
             subst (λ (x : ℕ). T (eq (widen x) (widen (frame_at samples n c j))))
-            (sym (result_frame shape rate made samples c (m * j) h.changes a.length C (subst (λ (x : ℕ). m * j < x) (sym t) (times_lt m j n (some m s Q (subst (λ (x : ℕ). 0 < x) G G0)) J))))
+            (sym (result_frame t shape rate made samples c (m * j) h.changes a.length C (subst (λ (x : ℕ). m * j < x) (sym long_is) (times_lt m j n (some m s Q (subst (λ (x : ℕ). 0 < x) G G0)) J))))
             (kept_frame shape.rate rate (channel samples n c) (m * j) j
             (playhead_is shape.rate rate r.units g.units (m * j) h.source_single r.value g.value r.high G0 (reach m j n (converted_length shape rate) len_is (le_of_lt J) a.few)
             ∙ round_same binary64 false (m * j * r.units) g.units j 1 G0 (lit< tt) (place m s j Q r.units g.units R G) ∙ whole_is j)
@@ -270,13 +273,29 @@ module _ (shape : Shape) (len : ℕ) (rate : Float) (made : Shape) (h : Converts
       }
 
 -- ---- the claim, with the conversions that meet its premises
-faster : Converts (mono 2 24000) 2 (single 48000) (mono 4 48000)
-unfolding converted_shape converted_length relabels valid_shape valid_rate float_eq ceil magnitude round sum add sub mul div neg lt eq le of_int to_unsigned fits of_bits
+faster : Converts defaults (mono 2 24000) 2 (single 48000) (mono 4 48000)
+unfolding converted_shape_with converted_length relabels_with valid_shape valid_rate float_eq ceil magnitude round sum add sub mul div neg lt eq le of_int to_unsigned fits of_bits
 faster = record { source_single = tt; target_single = tt; accepted = refl; changes = refl }
 
-slower : Converts (mono 3 48000) 3 (single 32000) (mono 2 32000)
-unfolding converted_shape converted_length relabels valid_shape valid_rate float_eq ceil magnitude round sum add sub mul div neg lt eq le of_int to_unsigned fits of_bits
+slower : Converts defaults (mono 3 48000) 3 (single 32000) (mono 2 32000)
+unfolding converted_shape_with converted_length relabels_with valid_shape valid_rate float_eq ceil magnitude round sum add sub mul div neg lt eq le of_int to_unsigned fits of_bits
 slower = record { source_single = tt; target_single = tt; accepted = refl; changes = refl }
 
+nearest : Converts (tolerances_of none none none) (mono 2 48000) 2 above (record { channels = 1; frames = 3; rate = above })
+unfolding converted_shape_with converted_length relabels_with valid_shape valid_rate float_eq ceil magnitude round sum add sub mul div neg lt eq le of_int to_unsigned fits of_bits
+nearest = record { source_single = tt; target_single = tt; accepted = refl; changes = refl }
+
+converted : Converts defaults (mono 2 48000) 2 half_above (record { channels = 1; frames = 3; rate = half_above })
+unfolding converted_shape_with converted_length relabels_with valid_shape valid_rate float_eq ceil magnitude round sum add sub mul div neg lt eq le of_int to_unsigned fits of_bits
+converted = record { source_single = tt; target_single = tt; accepted = refl; changes = refl }
+
+within_half : relabels_with (tolerances_of none none half) (mono 2 48000) half_above ≡ true
+unfolding relabels_with float_eq magnitude round sum sub neg lt eq le of_int of_bits
+within_half = refl
+
+within_default : relabels_with defaults (mono 2 48000) above ≡ true
+unfolding relabels_with float_eq magnitude round sum sub neg lt eq le of_int of_bits
+within_default = refl
+
 pub keeps_time : KeepsTime
-keeps_time = record { instants = instants; multiples = multiple; up = faster; down = slower }
+keeps_time = record { instants = instants; multiples = multiple; up = faster; down = slower; next = nearest; relabelled = within_default; converted = converted; relabelled_wider = within_half }

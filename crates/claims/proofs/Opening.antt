@@ -10,10 +10,11 @@ use lib.ListN.{length}
 use lib.Ieee.{Float, binary32, of_bits, fits, lt, le, eq}
 use Rattle.buffer.specs.Limits.{valid_rate, valid_shape, duration, Valid, valid}
 use Rattle.seconds.specs.Seconds.{context, in_clip, none, never}
-use Rattle.player.specs.Record.{shape_of, loop_of, render_of, fresh, given}
+use Rattle.player.specs.Record.{shape_of, loop_of, render_of, fresh_with, given}
 use Rattle.player.specs.Messages.{clamped_start, clamped_end, clamped, bad_time, on_start, on_stop, on_loop, handled, buffered}
 use Rattle.buffer.specs.declared.Shape.{Shape}
 use Rattle.player.specs.declared.Player.{Player}
+use Rattle.player.specs.declared.PlayerOptions.{PlayerOptions}
 use Rattle.player.specs.declared.ControlMessage.{ControlMessage}
 use Rattle.player.specs.declared.ControlMessage.TheVariants.{Start, Stop, Loop, LoopStart, LoopEnd}
 use Rattle.buffer.specs.declared.refusals.Refusal.{Refusal}
@@ -38,8 +39,8 @@ abbrev end_of : Bool → Shape → Float
 end_of has shape = cond has (duration shape.frames shape.rate) none
 
 -- the player then, with these loop points
-abbrev pointed : Float → Received → Bool → Float → Float → Player
-pointed rate a has from to = record {
+abbrev pointed : Float → PlayerOptions → Received → Bool → Float → Float → Player
+pointed rate options a has from to = record {
   sample_rate = rate;
   start_time = context a.start;
   stop_time = context a.stop;
@@ -52,17 +53,18 @@ pointed rate a has from to = record {
   shape = a.shape;
   has_block = false;
   block_time = context none;
+  tolerances = options.tolerances;
 }
 
-abbrev pub opened : Float → Received → Player
-opened rate a = pointed rate a a.has_buffer none (end_of a.has_buffer a.shape)
+abbrev pub opened : Float → PlayerOptions → Received → Player
+opened rate options a = pointed rate options a a.has_buffer none (end_of a.has_buffer a.shape)
 
 abbrev pub nothing : Received
 nothing = record { has_start = false; start = never; stop = never; offset = none; length = never; looped = false; has_buffer = false; shape = shape_of 0 0 (of_bits binary32 0) }
 
-pub fresh_is : (rate : Float) → fresh rate ≡ opened rate nothing
-unfolding fresh
-fresh_is rate = refl
+pub fresh_is : (rate : Float) (options : PlayerOptions) → fresh_with rate options ≡ opened rate options nothing
+unfolding fresh_with
+fresh_is rate options = refl
 
 -- one call more
 abbrev pub receive : Received → Call → Received
@@ -112,18 +114,18 @@ unfolding clamped_end
 set_end d = simp is_none
 
 -- the loop points of a clip that stands are kept, and those of one that has just come are set
-module _ (rate : Float) (a : Received) where
-  clamp_keeps : (a.has_buffer ≡ true → lt (duration a.shape.frames a.shape.rate) none ≡ false) → clamped (opened rate a) ≡ opened rate a
+module _ (rate : Float) (options : PlayerOptions) (a : Received) where
+  clamp_keeps : (a.has_buffer ≡ true → lt (duration a.shape.frames a.shape.rate) none ≡ false) → clamped (opened rate options a) ≡ opened rate options a
   unfolding clamped
   clamp_keeps h = go a.has_buffer h
     where
-      go : (b : Bool) → (b ≡ true → lt (duration a.shape.frames a.shape.rate) none ≡ false) → clamped (pointed rate a b none (end_of b a.shape)) ≡ pointed rate a b none (end_of b a.shape)
-      go true k = ap₂ (λ (x y : Float). pointed rate a true x y) (keep_start _ (k refl)) (keep_end _)
+      go : (b : Bool) → (b ≡ true → lt (duration a.shape.frames a.shape.rate) none ≡ false) → clamped (pointed rate options a b none (end_of b a.shape)) ≡ pointed rate options a b none (end_of b a.shape)
+      go true k = ap₂ (λ (x y : Float). pointed rate options a true x y) (keep_start _ (k refl)) (keep_end _)
       go false k = refl
 
-  clamp_sets : lt (duration a.shape.frames a.shape.rate) none ≡ false → clamped (pointed rate a true none none) ≡ pointed rate a true none (duration a.shape.frames a.shape.rate)
+  clamp_sets : lt (duration a.shape.frames a.shape.rate) none ≡ false → clamped (pointed rate options a true none none) ≡ pointed rate options a true none (duration a.shape.frames a.shape.rate)
   unfolding clamped
-  clamp_sets h = ap₂ (λ (x y : Float). pointed rate a true x y) (keep_start _ h) (set_end _)
+  clamp_sets h = ap₂ (λ (x y : Float). pointed rate options a true x y) (keep_start _ h) (set_end _)
 
 -- ---- an accepted call
 -- what the refusals' tests leave
@@ -154,15 +156,15 @@ no_point x l e = let z : ◌≡◌ {A = ℕ} 0 1 = cc in omega arith
 abbrev pub SomeSeconds : Type 0
 SomeSeconds = (n : ℕ) (r : Float) → 1 ≤ n → n ≤ 16777216 → T (fits binary32 r) → T (valid_rate r) → lt (duration n r) none ≡ false
 
-module _ (seconds : SomeSeconds) (rate : Float) where
+module _ (seconds : SomeSeconds) (rate : Float) (options : PlayerOptions) where
   stands : (a : Received) → SoundIf a → a.has_buffer ≡ true → lt (duration a.shape.frames a.shape.rate) none ≡ false
   stands a s h = let k = s h in seconds a.shape.frames a.shape.rate k.long k.short k.single k.proper
 
-  open_buffer : (a : Received) (channels frames : ℕ) (r : Float) (samples : List ℕ) → is_done (buffered (opened rate a) channels frames r (length samples)) ≡ true → T (fits binary32 r)
-      → (left (buffered (opened rate a) channels frames r (length samples)) (opened rate a) ≡ opened rate (receive a (buffer channels frames r samples))) × Sound channels frames r
+  open_buffer : (a : Received) (channels frames : ℕ) (r : Float) (samples : List ℕ) → is_done (buffered (opened rate options a) channels frames r (length samples)) ≡ true → T (fits binary32 r)
+      → (left (buffered (opened rate options a) channels frames r (length samples)) (opened rate options a) ≡ opened rate options (receive a (buffer channels frames r samples))) × Sound channels frames r
   unfolding buffered
   open_buffer a channels frames r samples h t =
-      let p = opened rate a in
+      let p = opened rate options a in
       let q = clamped (given p (shape_of channels frames r)) in
       let f = four_tests (valid_shape channels frames (length samples)) (valid_rate r) a.has_buffer (eqb frames 0) p q h in
       let v : Valid channels frames (length samples) = valid channels frames (length samples) f.first in
@@ -170,8 +172,8 @@ module _ (seconds : SomeSeconds) (rate : Float) where
       let s : Sound channels frames r = record { some = v.some; few = v.few; long = one_more; short = v.short; proper = subst T (sym f.second) tt; single = t } in
       let b = receive a (buffer channels frames r samples) in (
         f.result
-            ∙ ap (λ (x : Bool). clamped (pointed rate b true none (end_of x a.shape))) f.third
-            ∙ clamp_sets rate b (seconds frames r one_more v.short t s.proper),
+            ∙ ap (λ (x : Bool). clamped (pointed rate options b true none (end_of x a.shape))) f.third
+            ∙ clamp_sets rate options b (seconds frames r one_more v.short t s.proper),
         s,
       )
     where
@@ -179,21 +181,21 @@ module _ (seconds : SomeSeconds) (rate : Float) where
       at_least zero h = absurd (h refl)
       at_least (suc n) h = omega arith
 
-  open_message : (a : Received) (m : ControlMessage) → SoundIf a → is_done (handled (opened rate a) m) ≡ true → point_in (message m) ≡ []
-      → (left (handled (opened rate a) m) (opened rate a) ≡ opened rate (receive a (message m))) × SoundIf (receive a (message m))
+  open_message : (a : Received) (m : ControlMessage) → SoundIf a → is_done (handled (opened rate options a) m) ≡ true → point_in (message m) ≡ []
+      → (left (handled (opened rate options a) m) (opened rate options a) ≡ opened rate options (receive a (message m))) × SoundIf (receive a (message m))
   unfolding handled on_start on_stop on_loop
   open_message a (Start when offset length) s h n =
       let b = receive a (message (Start when offset length)) in
-      (two_tests (bad_time when || bad_time offset || bad_time length) a.has_start refused.Value refused.Second (opened rate a) _ h ∙ clamp_keeps rate b (stands b s), s)
+      (two_tests (bad_time when || bad_time offset || bad_time length) a.has_start refused.Value refused.Second (opened rate options a) _ h ∙ clamp_keeps rate options b (stands b s), s)
   open_message a (Stop when) s h n =
       let b = receive a (message (Stop when)) in
-      (two_tests (bad_time when) (not a.has_start) refused.Value refused.Early (opened rate a) _ h ∙ clamp_keeps rate b (stands b s), s)
-  open_message a (Loop on) s h n = let b = receive a (message (Loop on)) in (clamp_keeps rate b (stands b s), s)
+      (two_tests (bad_time when) (not a.has_start) refused.Value refused.Early (opened rate options a) _ h ∙ clamp_keeps rate options b (stands b s), s)
+  open_message a (Loop on) s h n = let b = receive a (message (Loop on)) in (clamp_keeps rate options b (stands b s), s)
   open_message a (LoopStart at) s h n = absurd (no_point at [] n)
   open_message a (LoopEnd at) s h n = absurd (no_point at [] n)
 
-  open_call : (a : Received) (c : Call) → SoundIf a → accepts (opened rate a) c ≡ true → T (typed c) → is_block_call c ≡ false → point_in c ≡ []
-      → (next (opened rate a) c ≡ opened rate (receive a c)) × SoundIf (receive a c)
+  open_call : (a : Received) (c : Call) → SoundIf a → accepts (opened rate options a) c ≡ true → T (typed c) → is_block_call c ≡ false → point_in c ≡ []
+      → (next (opened rate options a) c ≡ opened rate options (receive a c)) × SoundIf (receive a c)
   unfolding accepts next
   open_call a (buffer channels frames r samples) s h t b n = let o = open_buffer a channels frames r samples h t in (o.0, λ (e : true ≡ true). o.1)
   open_call a (message m) s h t b n = open_message a m s h n
@@ -213,13 +215,13 @@ back_none : {A : Type 0} (xs ys : List A) → xs ++ ys ≡ [] → ys ≡ []
 back_none [] ys e = e
 back_none (x ∷ xs) ys e = absurd (no_point x (xs ++ ys) e)
 
-pub open_all : (seconds : SomeSeconds) (rate : Float) (a : Received) (p : Player) (es : List Event) → p ≡ opened rate a → SoundIf a → Chain p es → NoBlocks es → gathered point_in es ≡ []
-    → (after_all p es ≡ opened rate (receive_all a es)) × SoundIf (receive_all a es)
-open_all seconds rate a p [] is s ch nb np = (is, s)
-open_all seconds rate a p (e ∷ es) is s ch nb np =
+pub open_all : (seconds : SomeSeconds) (rate : Float) (options : PlayerOptions) (a : Received) (p : Player) (es : List Event) → p ≡ opened rate options a → SoundIf a → Chain p es → NoBlocks es → gathered point_in es ≡ []
+    → (after_all p es ≡ opened rate options (receive_all a es)) × SoundIf (receive_all a es)
+open_all seconds rate options a p [] is s ch nb np = (is, s)
+open_all seconds rate options a p (e ∷ es) is s ch nb np =
     let l = ch.0 in
     let n : point_in e.call ≡ [] = front_none (point_in e.call) (gathered point_in es) np in
-    let o = open_call seconds rate a e.call s (ap (λ (q : Player). accepts q e.call) (sym is) ∙ l.taken) l.fits nb.0 n in
+    let o = open_call seconds rate options a e.call s (ap (λ (q : Player). accepts q e.call) (sym is) ∙ l.taken) l.fits nb.0 n in
     let same : next p e.call ≡ after e = ap (λ (q : Player). next q e.call) (sym l.got) in
-    let here : after e ≡ opened rate (receive a e.call) = sym same ∙ ap (λ (q : Player). next q e.call) is ∙ o.0 in
-    open_all seconds rate (receive a e.call) (after e) es here o.1 (subst (λ (q : Player). Chain q es) same ch.1) nb.1 (back_none (point_in e.call) (gathered point_in es) np)
+    let here : after e ≡ opened rate options (receive a e.call) = sym same ∙ ap (λ (q : Player). next q e.call) is ∙ o.0 in
+    open_all seconds rate options (receive a e.call) (after e) es here o.1 (subst (λ (q : Player). Chain q es) same ch.1) nb.1 (back_none (point_in e.call) (gathered point_in es) np)

@@ -20,6 +20,7 @@ use Rattle.sub_sample.specs.declared.Playhead.{Playhead}
 use Rattle.buffer.specs.Channels.{channel}
 use Rattle.player.specs.Block.{Plan, silent, idle, start_at, is_aligned, has_ended, turns_over, aligned_plan, settings, first_head, sub_sample_plan, plan}
 use Rattle.player.specs.declared.Player.{Player}
+use Rattle.tolerances.specs.declared.Tolerances.{Tolerances}
 use Rattle.tape.specs.Tape as tape
 use Rattle.tape.specs.Tape.{Head, played, at_end, bits_of}
 use Rattle.tape.proofs.Heads.{at, straight, turning, end_below}
@@ -38,6 +39,7 @@ pub record Setup : Type 0 where
   pub channels : ℕ
   pub frames : ℕ
   pub stop : Float
+  pub tolerances : Tolerances
 
 -- the ground that all blocks stand on: what stays, a rate of R units of binary32, the limits, and the samples that each block is lent
 pub record Ground : Type 0 where
@@ -80,6 +82,7 @@ standing s x = record {
   shape = shape_of s.channels s.frames s.rate;
   has_block = x.has_block;
   block_time = context x.time;
+  tolerances = s.tolerances;
 }
 
 -- ---- an ended player

@@ -9,8 +9,9 @@ use lib.ListN.{length}
 use lib.Ieee.{Float, binary32, fits, le}
 use Rattle.buffer.specs.Limits.{valid_rate}
 use Rattle.seconds.specs.Seconds.{none, block_end}
-use Rattle.player.specs.Record.{fresh}
+use Rattle.player.specs.Record.{fresh_with}
 use Rattle.player.specs.declared.Player.{Player}
+use Rattle.player.specs.declared.PlayerOptions.{PlayerOptions}
 use Rattle.player.specs.declared.ControlMessage.TheVariants.{Start, Stop, Loop, LoopStart, LoopEnd}
 use Rattle.std.proofs.lemmas.List.{append_assoc}
 use Rattle.tape.specs.Tape as tape
@@ -124,28 +125,28 @@ begins_by rate es h = record {
     none : (l : List Float) → l ≡ [] → length l ≤ 1
     none l e = rw e (omega arith)
 
-module _ (rate : Float) (f : T (fits binary32 rate)) (ok : T (valid_rate rate)) (calls : List Call) (ty : T (all_typed calls)) (h : SwitchPremises rate (accepted (fresh rate) calls)) where
+module _ (rate : Float) (options : PlayerOptions) (f : T (fits binary32 rate)) (ok : T (valid_rate rate)) (calls : List Call) (ty : T (all_typed calls)) (h : SwitchPremises rate (accepted (fresh_with rate options) calls)) where
   abbrev es : List Event
-  es = accepted (fresh rate) calls
+  es = accepted (fresh_with rate options) calls
 
   abbrev b : Begins rate es
   b = begins_by rate es h
 
   abbrev g : Ground
-  g = ground rate f ok calls ty b
+  g = ground rate options f ok calls ty b
 
   abbrev s : Setup
   s = g.setup
 
   abbrev x : State
-  x = first rate f ok calls ty b
+  x = first rate options f ok calls ty b
 
   -- the tape at the first block
   abbrev t : Tape
-  t = begun (got rate f ok calls ty b).looped
+  t = begun (got rate options f ok calls ty b).looped
 
   opening_tape : tape_after h.clip.frames (opening es) ≡ t
-  opening_tape = tape_is rate f ok calls ty b 128
+  opening_tape = tape_is rate options f ok calls ty b 128
 
   tape_parts : (front : List Event) → tape_after h.clip.frames (opening es ++ front) ≡ stepped_all 128 h.clip.frames t (gathered step_in front)
   tape_parts front =
@@ -163,7 +164,7 @@ module _ (rate : Float) (f : T (fits binary32 rate)) (ok : T (valid_rate rate)) 
   At u z rest = Moment g (Meets s.stop) u z rest
 
   at_first : At t x (playing es)
-  at_first = moment rate f ok calls ty b (Meets s.stop) h.only_steps still_off
+  at_first = moment rate options f ok calls ty b (Meets s.stop) h.only_steps still_off
 
   -- no stop was sent
   no_stop : (time : Float) → Time time → le s.stop (block_end 128 time rate) ≡ false
@@ -173,15 +174,15 @@ module _ (rate : Float) (f : T (fits binary32 rate)) (ok : T (valid_rate rate)) 
   not_passed z p = true≢false (sym p.past ∙ no_stop z.time p.time)
 
   -- ---- after a front part that holds the opening
-  reached : (front back : List Event) → es ≡ front ++ back → Late front back → Reached g (Meets s.stop) (tape_after h.clip.frames front) (after_all (fresh rate) front) back
+  reached : (front back : List Event) → es ≡ front ++ back → Late front back → Reached g (Meets s.stop) (tape_after h.clip.frames front) (after_all (fresh_with rate options) front) back
   reached front back split l =
       let is : front ≡ opening es ++ l.more = l.front_is ∙ ap (λ (r : List Event). opening r ++ l.more) (sym split) in
       let rest : playing es ≡ l.more ++ back = ap playing split ∙ l.playing_is in
       let r = reach g (Meets s.stop) (up_reach g) l.more back t x (subst (At t x) rest at_first) (hits_reach g l.more) in
       let tape_there : stepped_all 128 h.clip.frames t (gathered step_in l.more) ≡ tape_after h.clip.frames front = sym (ap (tape_after h.clip.frames) is ∙ tape_parts l.more) in
-      let player_there : after_all (standing s x) l.more ≡ after_all (fresh rate) front =
-      sym (ap (after_all (fresh rate)) is ∙ after_on (fresh rate) (opening es) l.more ∙ ap (λ (p : Player). after_all p l.more) (first_is rate f ok calls ty b)) in
-      subst (λ (u : Tape). Reached g (Meets s.stop) u (after_all (fresh rate) front) back) tape_there
+      let player_there : after_all (standing s x) l.more ≡ after_all (fresh_with rate options) front =
+      sym (ap (after_all (fresh_with rate options)) is ∙ after_on (fresh_with rate options) (opening es) l.more ∙ ap (λ (p : Player). after_all p l.more) (first_is rate options f ok calls ty b)) in
+      subst (λ (u : Tape). Reached g (Meets s.stop) u (after_all (fresh_with rate options) front) back) tape_there
       (subst (λ (p : Player). Reached g (Meets s.stop) (stepped_all 128 h.clip.frames t (gathered step_in l.more)) p back) player_there r)
 
   beside_state : (u : Tape) (z : State) → Inv s g.units (Meets s.stop) u z → Beside rate u (standing s z)
@@ -195,26 +196,26 @@ module _ (rate : Float) (f : T (fits binary32 rate)) (ok : T (valid_rate rate)) 
   beside_state u z (run_out e k) = record { has_ended = λ n. e; not_before = λ n m. absurd (true≢false (sym k ∙ n)); position = λ n. absurd (true≢false (sym e ∙ n)) }
 
   -- ---- before the first block
-  early_player : (front back : List Event) → es ≡ front ++ back → NoBlocks front → after_all (fresh rate) front ≡ opened rate (receive_all nothing front)
+  early_player : (front back : List Event) → es ≡ front ++ back → NoBlocks front → after_all (fresh_with rate options) front ≡ opened rate options (receive_all nothing front)
   early_player front back split nb =
       let points : gathered point_in front ++ gathered point_in (opening back) ≡ [] =
       sym (gathered_on point_in front (opening back)) ∙ ap (gathered point_in) (sym (early_opening front back nb) ∙ ap opening (sym split)) ∙ h.no_points in
-      (open_all some_seconds rate nothing (fresh rate) front (fresh_is rate) (λ (e : false ≡ true). absurd (false≢true e))
-      (front_chain (fresh rate) front back (subst (Chain (fresh rate)) split (chain (fresh rate) calls ty))) nb (front_none (gathered point_in front) (gathered point_in (opening back)) points)).0
+      (open_all some_seconds rate options nothing (fresh_with rate options) front (fresh_is rate options) (λ (e : false ≡ true). absurd (false≢true e))
+      (front_chain (fresh_with rate options) front back (subst (Chain (fresh_with rate options)) split (chain (fresh_with rate options) calls ty))) nb (front_none (gathered point_in front) (gathered point_in (opening back)) points)).0
 
-  beside_opened : (a : Received) → Beside rate (begun a.looped) (opened rate a)
+  beside_opened : (a : Received) → Beside rate (begun a.looped) (opened rate options a)
   beside_opened a = record {
     has_ended = λ e. absurd (false≢true e);
     not_before = λ e n. refl;
     position = λ e. reports rate g.units g.value g.low g.high none 0 0 (frames_zero rate g.units) (omega arith);
   }
 
-  beside_lem : (front back : List Event) → es ≡ front ++ back → Beside rate (tape_after h.clip.frames front) (after_all (fresh rate) front)
+  beside_lem : (front back : List Event) → es ≡ front ++ back → Beside rate (tape_after h.clip.frames front) (after_all (fresh_with rate options) front)
   beside_lem front back split = go (parted front back)
     where
-      go : Parted front back → Beside rate (tape_after h.clip.frames front) (after_all (fresh rate) front)
+      go : Parted front back → Beside rate (tape_after h.clip.frames front) (after_all (fresh_with rate options) front)
       go (early nb) =
-          subst (λ (u : Tape). Beside rate u (after_all (fresh rate) front)) (sym (loops 128 h.clip.frames nothing front nb))
+          subst (λ (u : Tape). Beside rate u (after_all (fresh_with rate options) front)) (sym (loops 128 h.clip.frames nothing front nb))
           (subst (λ (p : Player). Beside rate (begun (receive_all nothing front).looped) p) (sym (early_player front back split nb)) (beside_opened (receive_all nothing front)))
       go (late l) =
           let r = reached front back split l in
@@ -238,7 +239,7 @@ module _ (rate : Float) (f : T (fits binary32 rate)) (ok : T (valid_rate rate)) 
         after_fit = fit_at g u r.state e back r.moment c;
       }
 
-  over_lem : (front back : List Event) → es ≡ front ++ back → is_ended (after_all (fresh rate) front) ≡ true → Over back
+  over_lem : (front back : List Event) → es ≡ front ++ back → is_ended (after_all (fresh_with rate options) front) ≡ true → Over back
   over_lem front back split d = go (parted front back)
     where
       go : Parted front back → Over back
@@ -247,7 +248,7 @@ module _ (rate : Float) (f : T (fits binary32 rate)) (ok : T (valid_rate rate)) 
           let r = reached front back split l in
           over_all g r.state back r.moment.chain r.moment.only (sym (ap is_ended r.player) ∙ d)
 
-  pub switched_lem : Switched rate es h.clip
+  pub switched_lem : Switched rate options es h.clip
   switched_lem = record { beside = beside_lem; follows = follows_lem; over = over_lem }
 
 -- ---- a list of demand 3 without a stop
@@ -267,9 +268,9 @@ off_loops n l a (e ∷ es) rest nb h =
     subst (λ (ts : List Step). T (stays_off n l (begun a.looped) ts)) (sym (append_assoc (step_in e.call) (gathered step_in es) rest))
     (off_one n l a e.call (gathered step_in es ++ rest) nb.0 (off_loops n l (receive a e.call) es rest nb.1 h))
 
-older_lem : (rate : Float) (calls : List Call) (h : Premises rate (accepted (fresh rate) calls)) → gathered stop_in (opening (accepted (fresh rate) calls)) ≡ [] → SwitchPremises rate (accepted (fresh rate) calls)
-older_lem rate calls h none =
-    let es = accepted (fresh rate) calls in
+older_lem : (rate : Float) (options : PlayerOptions) (calls : List Call) (h : Premises rate (accepted (fresh_with rate options) calls)) → gathered stop_in (opening (accepted (fresh_with rate options) calls)) ≡ [] → SwitchPremises rate (accepted (fresh_with rate options) calls)
+older_lem rate options calls h none =
+    let es = accepted (fresh_with rate options) calls in
     let l = h.clip.frames in
     let blocks : T (stays_off 128 l (begun (receive_all nothing (opening es)).looped) (gathered step_in (playing es))) =
     subst (λ (ts : List Step). T (stays_off 128 l (begun (receive_all nothing (opening es)).looped) ts)) (sym (steps_of h.clip.samples (playing es) h.only_blocks)) (off_blocks 128 l (length (playing es)) _) in

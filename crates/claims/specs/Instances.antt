@@ -5,7 +5,8 @@ use Rattle.std.specs.Float.Ieee.{fits}
 use Rattle.buffer.specs.Limits.{valid_rate}
 use Rattle.buffer.specs.declared.refusals.Refusal.TheVariants as refused
 use Rattle.seconds.specs.Seconds.{none, never, one}
-use Rattle.player.specs.Record.{fresh}
+use Rattle.player.specs.Record.{fresh_with}
+use Rattle.player.specs.declared.PlayerOptions.{PlayerOptions}
 use Rattle.player.specs.declared.ControlMessage.TheVariants.{Start, Stop, Loop}
 use Rattle.claims.specs.Calls.{Call, buffer, message, block, all_typed, accepted, playing}
 use Rattle.claims.specs.LongRun.{Premises}
@@ -79,26 +80,32 @@ previewed_calls =
 abbrev pub between_calls : List LongerCall
 between_calls = look_at tick ∷ look_in_cents none (pos 50) ∷ short_look tock ∷ []
 
--- the premises are met, and this many blocks are accepted
-pub record Met (calls : List Call) (blocks : ℕ) : Type 0 where
+-- the premises are met by a player made with these options, and this many blocks are accepted
+pub record Met (options : PlayerOptions) (calls : List Call) (blocks : ℕ) : Type 0 where
   pub single : T (fits binary32 rate)
   pub valid : T (valid_rate rate)
   pub typed : T (all_typed calls)
-  pub premises : Premises rate (accepted (fresh rate) calls)
-  pub played : length (playing (accepted (fresh rate) calls)) ≡ blocks
+  pub premises : Premises rate (accepted (fresh_with rate options) calls)
+  pub played : length (playing (accepted (fresh_with rate options) calls)) ≡ blocks
 
 -- the premises of `long_run` for longer lists are met: this many calls are left out, and this many blocks are accepted
-pub record MetLonger (calls : List LongerCall) (left blocks : ℕ) : Type 0 where
+pub record MetLonger (options : PlayerOptions) (calls : List LongerCall) (left blocks : ℕ) : Type 0 where
   pub typed : T (all_typed_longer calls)
-  pub left_out : length calls ≡ left + length (replaced (fresh rate) calls)
-  pub met : Met (replaced (fresh rate) calls) blocks
+  pub left_out : length calls ≡ left + length (replaced (fresh_with rate options) calls)
+  pub met : Met options (replaced (fresh_with rate options) calls) blocks
 
 -- the premises of the claim about previews are met: previews alone, two outputs of one length that held other words, and refused previews, by 8 and 16
-pub record MetPreviews : Type 0 where
+pub record MetPreviews (options : PlayerOptions) : Type 0 where
   pub between : unlooked between_calls ≡ []
   pub lengths : length {A = ℕ} (replicate 4096 9) ≡ length {A = ℕ} (replicate 4096 7)
-  pub short : previewed 128 (fresh rate) 128 3 none one one ≡ Err refused.Length
-  pub far : previewed_cents 128 (fresh rate) 4096 3 none one (pos 12001) ≡ Err refused.Cents
+  pub short : previewed 128 (fresh_with rate options) 128 3 none one one ≡ Err refused.Length
+  pub far : previewed_cents 128 (fresh_with rate options) 4096 3 none one (pos 12001) ≡ Err refused.Cents
 
-abbrev pub Instances : Type 0
-Instances = Met looped_calls 2 × Met plain_calls 2 × Met stopped_calls 3 × MetLonger longer_calls 2 2 × MetLonger previewed_calls 7 2 × MetPreviews
+-- and that whatever the player is made with
+pub record Instances : Type 0 where
+  pub looped : (options : PlayerOptions) → Met options looped_calls 2
+  pub plain : (options : PlayerOptions) → Met options plain_calls 2
+  pub stopped : (options : PlayerOptions) → Met options stopped_calls 3
+  pub longer : (options : PlayerOptions) → MetLonger options longer_calls 2 2
+  pub previewed : (options : PlayerOptions) → MetLonger options previewed_calls 7 2
+  pub previews : (options : PlayerOptions) → MetPreviews options

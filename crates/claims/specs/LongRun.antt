@@ -5,9 +5,10 @@ use Rattle.std.specs.Float.Ieee.{fits, lt, le, eq}
 use Rattle.std.specs.Float.Ieee.Exact.{HasValue}
 use Rattle.seconds.specs.Seconds.{none, never, one, instant, block_end}
 use Rattle.buffer.specs.Limits.{valid_rate}
-use Rattle.player.specs.Record.{fresh}
+use Rattle.player.specs.Record.{fresh_with}
 use Rattle.buffer.specs.Channels.{channel}
 use Rattle.player.specs.declared.Player.{Player}
+use Rattle.player.specs.declared.PlayerOptions.{PlayerOptions}
 use Rattle.claims.specs.Calls.{Call, buffer, message, block, all_typed, Event, accepted, after, after_all, time_of, channels_of, sample_of, is_ended}
 use Rattle.claims.specs.Calls.{opening, playing, Clip, Started, clip_in, start_in, stop_in, switch_in, point_in, gathered}
 
@@ -125,13 +126,14 @@ pub record Block (rate : Float) (looped : Bool) (clip : Clip) (stop : List Float
   pub zero_from_stop : (c i : ℕ) → c < channels_of e → i < 128 → T (reaches (instant (time_of e.call) rate i) stop) → sample_of e c i ≡ 0
   pub ends_at_stop : T (reaches (end_of rate e) stop) → (is_ended (after e) ≡ true) × Over back
 
-pub record Holds (rate : Float) (es : List Event) (clip : Clip) : Type 0 where
-  pub begins : Stands rate (switched_on (gathered switch_in (opening es))) clip.frames 0 (after_all (fresh rate) (opening es))
+pub record Holds (rate : Float) (options : PlayerOptions) (es : List Event) (clip : Clip) : Type 0 where
+  pub begins : Stands rate (switched_on (gathered switch_in (opening es))) clip.frames 0 (after_all (fresh_with rate options) (opening es))
   pub each : (front : List Event) (e : Event) (back : List Event) → playing es ≡ front ++ (e ∷ back)
       → Block rate (switched_on (gathered switch_in (opening es))) clip (gathered stop_in (opening es)) front e back
 
--- the claim: for every output rate that a player can be made for, and every list of calls on that fresh player
+-- the claim: for every output rate that a player can be made for, whatever tolerances it is made with (document 02, 2.7), and every list of calls on
+-- that fresh player; the one that is made for a rate alone has the defaults
 abbrev pub LongRun : Type 0
 LongRun =
-    (rate : Float) → T (fits binary32 rate) → T (valid_rate rate) → (calls : List Call) → T (all_typed calls)
-    → (h : Premises rate (accepted (fresh rate) calls)) → Holds rate (accepted (fresh rate) calls) h.clip
+    (rate : Float) (options : PlayerOptions) → T (fits binary32 rate) → T (valid_rate rate) → (calls : List Call) → T (all_typed calls)
+    → (h : Premises rate (accepted (fresh_with rate options) calls)) → Holds rate options (accepted (fresh_with rate options) calls) h.clip

@@ -8,11 +8,12 @@ use Rattle.buffer.specs.Answers as answers
 use Rattle.buffer.specs.Answers.{Answer}
 use Rattle.buffer.specs.Limits.{valid_rate}
 use Rattle.detune.specs.Detune.{factor_of}
-use Rattle.player.specs.Record.{fresh}
+use Rattle.player.specs.Record.{fresh_with}
 use Rattle.player.specs.Messages.{handled, buffered}
 use Rattle.player.specs.Block.{rendered}
 use Rattle.buffer.specs.Answers.{answer_of}
 use Rattle.player.specs.declared.Player.{Player}
+use Rattle.player.specs.declared.PlayerOptions.{PlayerOptions}
 use Rattle.player.specs.declared.BlockReport.{BlockReport}
 use Rattle.cents.specs.Cents.{rendered_cents, output_cents}
 use Rattle.preview.specs.Preview.{previewed, previewed_cents}
@@ -120,13 +121,15 @@ pub record InCents : Type 0 where
   pub at_zero : (p : Player) (out samples : List ℕ) (time rate : Float)
       → outcome_longer p (in_cents out samples time rate (pos 0)) ≡ outcome p (block out samples time rate one)
   -- demand 3 holds of the list so replaced
-  pub long_run : (rate : Float) → T (fits binary32 rate) → T (valid_rate rate) → (calls : List LongerCall) → T (all_typed_longer calls)
-      → (h : Premises rate (accepted (fresh rate) (replaced (fresh rate) calls)))
-      → Holds rate (accepted (fresh rate) (replaced (fresh rate) calls)) h.clip
+  pub long_run : (rate : Float) (options : PlayerOptions) → T (fits binary32 rate) → T (valid_rate rate)
+      → (calls : List LongerCall) → T (all_typed_longer calls)
+      → (h : Premises rate (accepted (fresh_with rate options) (replaced (fresh_with rate options) calls)))
+      → Holds rate options (accepted (fresh_with rate options) (replaced (fresh_with rate options) calls)) h.clip
   -- and so does the statement about the loop switched during playback (document 02, 2.6)
-  pub loop_switch : (rate : Float) → T (fits binary32 rate) → T (valid_rate rate) → (calls : List LongerCall) → T (all_typed_longer calls)
-      → (h : SwitchPremises rate (accepted (fresh rate) (replaced (fresh rate) calls)))
-      → Switched rate (accepted (fresh rate) (replaced (fresh rate) calls)) h.clip
+  pub loop_switch : (rate : Float) (options : PlayerOptions) → T (fits binary32 rate) → T (valid_rate rate)
+      → (calls : List LongerCall) → T (all_typed_longer calls)
+      → (h : SwitchPremises rate (accepted (fresh_with rate options) (replaced (fresh_with rate options) calls)))
+      → Switched rate options (accepted (fresh_with rate options) (replaced (fresh_with rate options) calls)) h.clip
 
 -- ---- previews: 'the player goes on as if nobody had looked'
 abbrev pub is_preview : LongerCall → Bool

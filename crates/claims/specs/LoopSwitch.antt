@@ -6,8 +6,9 @@ use Rattle.std.specs.Float.Ieee.{fits, eq}
 use Rattle.seconds.specs.Seconds.{none, never}
 use Rattle.buffer.specs.Limits.{valid_rate}
 use Rattle.buffer.specs.Channels.{channel}
-use Rattle.player.specs.Record.{fresh}
+use Rattle.player.specs.Record.{fresh_with}
 use Rattle.player.specs.declared.Player.{Player}
+use Rattle.player.specs.declared.PlayerOptions.{PlayerOptions}
 use Rattle.player.specs.declared.ControlMessage.TheVariants.{Start, Stop, Loop, LoopStart, LoopEnd}
 use Rattle.tape.specs.Tape as tape
 use Rattle.tape.specs.Tape.{Tape, Step, loop_is, a_block, stepped_all, frame_at, bits_of, stays_off}
@@ -76,14 +77,14 @@ pub record Follows (clip : Clip) (t : Tape) (e : Event) : Type 0 where
   pub plays : (c i : ℕ) → c < channels_of e → i < 128 → sample_of e c i ≡ bits_of (channel clip.samples clip.frames c) (frame_at clip.frames t i)
   pub after_fit : t.exact_fit ≡ true → is_ended (after e) ≡ true
 
-pub record Switched (rate : Float) (es : List Event) (clip : Clip) : Type 0 where
+pub record Switched (rate : Float) (options : PlayerOptions) (es : List Event) (clip : Clip) : Type 0 where
   -- after every front part of the list
-  pub beside : (front back : List Event) → es ≡ front ++ back → Beside rate (tape_after clip.frames front) (after_all (fresh rate) front)
+  pub beside : (front back : List Event) → es ≡ front ++ back → Beside rate (tape_after clip.frames front) (after_all (fresh_with rate options) front)
   -- every block
   pub follows : (front : List Event) (e : Event) (back : List Event) → es ≡ front ++ (e ∷ back) → is_block_call e.call ≡ true
       → Follows clip (tape_after clip.frames front) e
   -- once ended, the player stays so and gives zeros for good, loop messages or not
-  pub over : (front back : List Event) → es ≡ front ++ back → is_ended (after_all (fresh rate) front) ≡ true → Over back
+  pub over : (front back : List Event) → es ≡ front ++ back → is_ended (after_all (fresh_with rate options) front) ≡ true → Over back
 
 -- ---- demand 3's rule is the tape's, with no switch during playback
 -- the tape after k blocks of n samples, the loop as it was before them
@@ -100,11 +101,11 @@ pub record NoSwitch (n : ℕ) (looped : Bool) (clip : Clip) (k : ℕ) : Type 0 w
 
 -- ---- the claim
 pub record LoopSwitch : Type 0 where
-  -- for every output rate that a player can be made for, and every list of calls on that fresh player
-  pub switched : (rate : Float) → T (fits binary32 rate) → T (valid_rate rate) → (calls : List Call) → T (all_typed calls)
-      → (h : SwitchPremises rate (accepted (fresh rate) calls)) → Switched rate (accepted (fresh rate) calls) h.clip
+  -- for every output rate that a player can be made for, whatever tolerances it is made with, and every list of calls on that fresh player
+  pub switched : (rate : Float) (options : PlayerOptions) → T (fits binary32 rate) → T (valid_rate rate) → (calls : List Call) → T (all_typed calls)
+      → (h : SwitchPremises rate (accepted (fresh_with rate options) calls)) → Switched rate options (accepted (fresh_with rate options) calls) h.clip
   -- every list of demand 3 without a stop is one of these lists
-  pub older : (rate : Float) (calls : List Call) → Premises rate (accepted (fresh rate) calls)
-      → gathered stop_in (opening (accepted (fresh rate) calls)) ≡ [] → SwitchPremises rate (accepted (fresh rate) calls)
+  pub older : (rate : Float) (options : PlayerOptions) (calls : List Call) → Premises rate (accepted (fresh_with rate options) calls)
+      → gathered stop_in (opening (accepted (fresh_with rate options) calls)) ≡ [] → SwitchPremises rate (accepted (fresh_with rate options) calls)
   -- and the frames and positions that demand 3 names are the tape's
   pub same_rule : (n : ℕ) (looped : Bool) (clip : Clip) (k : ℕ) → 0 < n → 0 < clip.frames → NoSwitch n looped clip k

@@ -4,7 +4,8 @@ use Rattle.std.specs.Float.{fin, binary32}
 use Rattle.std.specs.Float.Ieee.{fits}
 use Rattle.buffer.specs.Limits.{valid_rate}
 use Rattle.seconds.specs.Seconds.{none, one}
-use Rattle.player.specs.Record.{fresh}
+use Rattle.player.specs.Record.{fresh_with}
+use Rattle.player.specs.declared.PlayerOptions.{PlayerOptions}
 use Rattle.player.specs.declared.ControlMessage.TheVariants.{Loop}
 use Rattle.tape.specs.Tape.{Tape}
 use Rattle.claims.specs.Calls.{Call, buffer, message, block, all_typed, accepted}
@@ -57,19 +58,26 @@ many_calls =
     switch true ∷ start ∷ switch false ∷ clip 128 ∷ switch true ∷ block_at 128 none ∷ switch false ∷ switch true ∷ block_at 128 tick
     ∷ switch true ∷ switch false ∷ block_at 128 tock ∷ switch false ∷ switch false ∷ block_at 128 third ∷ []
 
--- the premises are met by the accepted calls, so many, and after them this is the tape
-pub record MetSwitch (l : ℕ) (calls : List Call) (count : ℕ) (t : Tape) : Type 0 where
+-- the premises are met by the accepted calls of a player made with these options, so many, and after them this is the tape
+pub record MetSwitch (options : PlayerOptions) (l : ℕ) (calls : List Call) (count : ℕ) (t : Tape) : Type 0 where
   pub single : T (fits binary32 rate)
   pub valid : T (valid_rate rate)
   pub typed : T (all_typed calls)
-  pub premises : SwitchPremises rate (accepted (fresh rate) calls)
-  pub count_is : length (accepted (fresh rate) calls) ≡ count
-  pub tape_is : tape_after l (accepted (fresh rate) calls) ≡ t
+  pub premises : SwitchPremises rate (accepted (fresh_with rate options) calls)
+  pub count_is : length (accepted (fresh_with rate options) calls) ≡ count
+  pub tape_is : tape_after l (accepted (fresh_with rate options) calls) ≡ t
 
+-- and that whatever the player is made with
 pub record SwitchInstances : Type 0 where
-  pub within : MetSwitch 600 within_calls 10 (record { looped = false; head = record { p = 512; wrap = false }; exact_fit = false; ended = false })
-  pub wrapped : MetSwitch 192 wrapped_calls 8 (record { looped = false; head = record { p = 320; wrap = false }; exact_fit = false; ended = true })
-  pub fitting : MetSwitch 128 fitting_calls 5 (record { looped = false; head = record { p = 256; wrap = false }; exact_fit = false; ended = true })
-  pub after_end : MetSwitch 100 ended_calls 7 (record { looped = false; head = record { p = 128; wrap = false }; exact_fit = false; ended = true })
-  pub many : MetSwitch 128 many_calls 15 (record { looped = false; head = record { p = 256; wrap = false }; exact_fit = false; ended = true })
-  pub at_last : MetSwitch 128 last_calls 6 (record { looped = true; head = record { p = 128; wrap = false }; exact_fit = true; ended = false })
+  pub within : (options : PlayerOptions) → MetSwitch options 600 within_calls 10
+      (record { looped = false; head = record { p = 512; wrap = false }; exact_fit = false; ended = false })
+  pub wrapped : (options : PlayerOptions) → MetSwitch options 192 wrapped_calls 8
+      (record { looped = false; head = record { p = 320; wrap = false }; exact_fit = false; ended = true })
+  pub fitting : (options : PlayerOptions) → MetSwitch options 128 fitting_calls 5
+      (record { looped = false; head = record { p = 256; wrap = false }; exact_fit = false; ended = true })
+  pub after_end : (options : PlayerOptions) → MetSwitch options 100 ended_calls 7
+      (record { looped = false; head = record { p = 128; wrap = false }; exact_fit = false; ended = true })
+  pub many : (options : PlayerOptions) → MetSwitch options 128 many_calls 15
+      (record { looped = false; head = record { p = 256; wrap = false }; exact_fit = false; ended = true })
+  pub at_last : (options : PlayerOptions) → MetSwitch options 128 last_calls 6
+      (record { looped = true; head = record { p = 128; wrap = false }; exact_fit = true; ended = false })

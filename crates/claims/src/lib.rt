@@ -9,6 +9,7 @@ ghost use Rattle.claims.specs.LongRun.{LongRun};
 ghost use Rattle.claims.specs.Longer.{InCents, Previews};
 ghost use Rattle.claims.specs.LoopSwitch.{LoopSwitch};
 ghost use Rattle.claims.specs.SwitchInstances.{SwitchInstances};
+ghost use Rattle.claims.specs.Tolerances.{KeepsTolerances, Receives, AsBefore};
 
 // Demand 3, for every list of calls on one fresh player.
 pub fn long_run()
@@ -48,6 +49,26 @@ pub fn premises_are_met()
 #[tactic(auto, using(crate::proofs::SwitchInstances::switch_instances))]
 pub fn switches_are_met()
     ensures { SwitchInstances }
+{}
+
+// A player keeps the tolerances that it was made with, through every list of calls.
+#[tactic(auto, using(crate::proofs::Tolerances::keeps_tolerances))]
+pub fn tolerances_kept()
+    ensures { KeepsTolerances }
+{}
+
+// Every near test of a block receives the player's tolerances, and a conversion those that it is
+// handed: each definition with such a test is the former one with their numbers in it.
+#[tactic(auto, using(crate::proofs::AsBefore::receives))]
+pub fn near_tests_receive()
+    ensures { Receives }
+{}
+
+// With the default tolerances all is as before: a player made for a rate alone has them, and so has
+// a conversion that is handed none.
+#[tactic(auto, using(crate::proofs::AsBefore::as_before))]
+pub fn as_before()
+    ensures { AsBefore }
 {}
 
 // Conversion by a real change keeps time. Frame i of the result is read at i × source rate / target
