@@ -61,7 +61,8 @@ enum {
     NETTHIMBLE_SPEED = 14,   /* block: the rate is not finite; the factor is NaN or outside 2^-64..2^64 */
     NETTHIMBLE_LAYOUT = 15,  /* clip: header, offsets or length differ from the layout; to be written: no frames, or a file over 65,536 bytes */
     NETTHIMBLE_CENTS = 16,   /* cents outside -12,000..12,000 */
-    NETTHIMBLE_ONSET = 17    /* clip with an onset: the onset is not below the frames */
+    NETTHIMBLE_ONSET = 17,   /* clip with an onset: the onset is not below the frames */
+    NETTHIMBLE_TOLERANCE = 18 /* tolerances: one that is not finite, or outside 0..1 */
 };
 
 /* ---- the records */
@@ -72,6 +73,22 @@ typedef struct {
     size_t frames;
     float rate;
 } netthimble_shape;
+
+/* Tolerances. A player takes two times, two positions in the clip, or at the last frame the weight of the next one and 1, as equal if they are
+ * apart by less than `near` times the larger magnitude, and a position as 0 if it is less than `near_zero` seconds from it. A conversion takes
+ * two rates as equal if they are apart by at most `relabel` frames a second. The defaults are 2^-26, 2^-26 and 0.1f
+ * (netthimble_default_options). */
+typedef struct {
+    double near;
+    double near_zero;
+    float relabel;
+} netthimble_tolerances;
+
+/* What a player is made with, beside its output rate. To be taken from netthimble_default_options and then altered: more may stand in it one day.
+ * Zeroed options are not the defaults: they test for equality alone, and a sound then begins a sample late now and then. */
+typedef struct {
+    netthimble_tolerances tolerances;
+} netthimble_options;
 
 /* A player. To be read, copied and handed back; a program that writes a field has made a record that no call made. */
 typedef struct {
@@ -98,6 +115,7 @@ typedef struct {
     netthimble_shape shape;
     bool has_block;
     double block_time; /* seconds of the context */
+    netthimble_tolerances tolerances; /* those it was made with: no call changes them */
 } netthimble_player;
 
 /* The player that a call leaves. */
@@ -114,6 +132,12 @@ typedef struct {
     bool keep_alive;
     bool ended;
 } netthimble_block;
+
+/* Tolerances that are made. */
+typedef struct {
+    netthimble_tolerances tolerances;
+    uint32_t refusal;
+} netthimble_tolerated;
 
 /* The factor of a detune. */
 typedef struct {
@@ -165,7 +189,16 @@ NETTHIMBLE_HOLDS(shape_size, sizeof(netthimble_shape) == 24);
 NETTHIMBLE_AT(shape, channels, channels, 0);
 NETTHIMBLE_AT(shape, frames, frames, 8);
 NETTHIMBLE_AT(shape, rate, rate, 16);
-NETTHIMBLE_HOLDS(player_size, sizeof(netthimble_player) == 144);
+NETTHIMBLE_HOLDS(tolerances_size, sizeof(netthimble_tolerances) == 24);
+NETTHIMBLE_AT(tolerances, near, near, 0);
+NETTHIMBLE_AT(tolerances, near_zero, near_zero, 8);
+NETTHIMBLE_AT(tolerances, relabel, relabel, 16);
+NETTHIMBLE_HOLDS(options_size, sizeof(netthimble_options) == 24);
+NETTHIMBLE_AT(options, tolerances, tolerances, 0);
+NETTHIMBLE_HOLDS(tolerated_size, sizeof(netthimble_tolerated) == 32);
+NETTHIMBLE_AT(tolerated, tolerances, tolerances, 0);
+NETTHIMBLE_AT(tolerated, refusal, refusal, 24);
+NETTHIMBLE_HOLDS(player_size, sizeof(netthimble_player) == 168);
 NETTHIMBLE_AT(player, sample_rate, sample_rate, 0);
 NETTHIMBLE_AT(player, start_time, start_time, 8);
 NETTHIMBLE_AT(player, stop_time, stop_time, 16);
@@ -185,8 +218,9 @@ NETTHIMBLE_AT(player, has_buffer, has_buffer, 97);
 NETTHIMBLE_AT(player, shape, shape, 104);
 NETTHIMBLE_AT(player, has_block, has_block, 128);
 NETTHIMBLE_AT(player, block_time, block_time, 136);
-NETTHIMBLE_HOLDS(told_size, sizeof(netthimble_told) == 152);
-NETTHIMBLE_AT(told, refusal, refusal, 144);
+NETTHIMBLE_AT(player, tolerances, tolerances, 144);
+NETTHIMBLE_HOLDS(told_size, sizeof(netthimble_told) == 176);
+NETTHIMBLE_AT(told, refusal, refusal, 168);
 NETTHIMBLE_HOLDS(block_size, sizeof(netthimble_block) == 24);
 NETTHIMBLE_AT(block, position, position, 0);
 NETTHIMBLE_AT(block, channels, channels, 8);
@@ -211,12 +245,23 @@ NETTHIMBLE_AT(count, refusal, refusal, 8);
 
 /* ---- the player */
 
-/* The bytes of a player's record in the library: 144, as here. */
+/* The bytes of a player's record, and of its options, in the library: 168 and 24, as here. */
 size_t netthimble_player_size(void);
+size_t netthimble_options_size(void);
 
-/* A fresh player for an output rate: no start, no buffer, loop off.
+/* A fresh player for an output rate, with the default options: no start, no buffer, loop off.
  * Refused: 2. The player is then one that never plays: it has ended, and a start, a buffer and every block of it are refused. */
 netthimble_told netthimble_new(float sample_rate);
+
+/* Tolerances of these numbers; each may be 0 (-0 too) to 1. Refused: 18; the tolerances are then zeros. */
+netthimble_tolerated netthimble_tolerances_new(double near, double near_zero, float relabel);
+
+/* The options that netthimble_new makes a player with: the default tolerances. */
+netthimble_options netthimble_default_options(void);
+
+/* A fresh player as of netthimble_new, with these options, which it keeps. Refused: 2, as there. Tolerances are checked where they are made
+ * (netthimble_tolerances_new), and not here: those of a record that no call made are kept as they are. */
+netthimble_told netthimble_new_with(float sample_rate, netthimble_options options);
 
 /* Start at `when` seconds of the context, `offset` seconds into the clip, for `duration` seconds of it (NETTHIMBLE_NEVER for all).
  * Refused: 9, 10. */
@@ -317,6 +362,11 @@ netthimble_shaped netthimble_converted_shape(netthimble_shape shape, size_t len,
  * last frame the result has the last frame's bits. Refused: 1, 2, 7, 8; `out` is then untouched. */
 netthimble_shaped netthimble_convert(netthimble_shape shape, const uint32_t *samples, size_t samples_len, float rate, uint32_t *out, size_t out_len);
 
+/* The two calls with the tolerances that they are handed, in place of the defaults: the rate alone changes within tolerances.relabel of the
+ * buffer's (the difference rounded to float). A conversion uses no other of them. Refused as they are: 1, 2, 7; and 8. */
+netthimble_shaped netthimble_converted_shape_with(netthimble_shape shape, size_t len, float rate, netthimble_tolerances tolerances);
+netthimble_shaped netthimble_convert_with(netthimble_shape shape, const uint32_t *samples, size_t samples_len, float rate, netthimble_tolerances tolerances, uint32_t *out, size_t out_len);
+
 /* ---- the messages with the player behind a pointer: each stores the player that the call leaves, and returns the refusal's number, 0
  * for none. Where the call is refused, *player stays as it was. */
 
@@ -325,11 +375,24 @@ static inline uint32_t netthimble_keep(netthimble_player *player, netthimble_tol
     return told.refusal;
 }
 
-/* Here a refused rate leaves the player that never plays. */
+/* In these two a refused rate leaves the player that never plays. */
 static inline uint32_t netthimble_player_new(netthimble_player *player, float sample_rate) {
     netthimble_told told = netthimble_new(sample_rate);
     *player = told.player;
     return told.refusal;
+}
+
+static inline uint32_t netthimble_player_new_with(netthimble_player *player, float sample_rate, netthimble_options options) {
+    netthimble_told told = netthimble_new_with(sample_rate, options);
+    *player = told.player;
+    return told.refusal;
+}
+
+/* Stores tolerances of these numbers. Refused: 18; *tolerances is then as it was. */
+static inline uint32_t netthimble_tolerances_set(netthimble_tolerances *tolerances, double near, double near_zero, float relabel) {
+    netthimble_tolerated made = netthimble_tolerances_new(near, near_zero, relabel);
+    if (made.refusal == 0) *tolerances = made.tolerances;
+    return made.refusal;
 }
 
 static inline uint32_t netthimble_player_start(netthimble_player *player, double when, double offset, double duration) {
@@ -364,6 +427,11 @@ static inline uint32_t netthimble_bits(float value) {
     uint32_t bits;
     memcpy(&bits, &value, sizeof bits);
     return bits;
+}
+
+/* Whether this header and the library that is linked agree on the records' sizes. To be asked once, before all else. */
+static inline bool netthimble_fits(void) {
+    return netthimble_player_size() == sizeof(netthimble_player) && netthimble_options_size() == sizeof(netthimble_options);
 }
 
 /* Whether this thread rounds to nearest and keeps subnormal numbers, as the proofs take for granted. To be asked once in each thread

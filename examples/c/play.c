@@ -18,6 +18,7 @@ static int refused(const char *call, uint32_t number) {
 }
 
 int main(int count, char **words) {
+    if (!netthimble_fits()) return printf("not the library of this header\n"), 1;
     if (!netthimble_is_ieee()) return printf("not the default floating-point mode\n"), 1;
     FILE *stream = fopen(count > 1 ? words[1] : "examples/tone/clip.bin", "rb");
     size_t len = stream ? fread(file, 1, sizeof file, stream) : 0;

@@ -11,6 +11,7 @@
     clip.convert(44100.0)          # the clip at another rate, its frames at the same instants
     clip.onset                     # the frame that the sound begins at: information only, no player is handed it
     netthimble.Clip.from_wav("sound.wav", onset=84).save("clip.bin")
+    netthimble.Player(768000, tolerances=netthimble.Tolerances(near=2.0**-40))  # tighter near tests; convert takes them too
 
 A call that the library refuses raises Refused, whose number is that of documents 01 and 02, and changes nothing.
 The library is target/c/libnetthimble.so of this repository, or the file that the environment variable NETTHIMBLE_LIBRARY names."""
@@ -25,12 +26,11 @@ from pathlib import Path
 
 from . import wav as _wav
 
-__all__ = ["FRAMES", "NEVER", "Block", "Clip", "Player", "Refused", "factor", "load", "load_old"]
+__all__ = ["FRAMES", "NEVER", "Block", "Clip", "Player", "Refused", "Tolerances", "factor", "load", "load_old"]
 
 FRAMES = 128  # frames of a block
 NEVER = 1.7976931348623157e308  # the largest double: a duration that is none
 _OUT = 32 * FRAMES
-_RELABEL = c_float(0.1).value  # a conversion to a rate as near as this changes the rate alone
 
 # document 01, 'Where a call is turned down'
 WORDS = {
@@ -51,6 +51,7 @@ WORDS = {
     15: "a clip file whose header, offsets or length differ from the layout; to be written, a clip of no frames or of a file over 65,536 bytes",
     16: "cents outside -12,000..12,000",
     17: "a clip's onset that is not below its frames",
+    18: "a tolerance that is not finite, or outside 0..1",
 }
 
 
@@ -82,11 +83,23 @@ class _RenderState(ctypes.Structure):
     _fields_ = [("buffer_time", c_double), ("started", c_bool), ("entered_loop", c_bool), ("buffer_time_elapsed", c_double), ("is_aligned", c_bool), ("ended", c_bool)]
 
 
+class _Tolerances(ctypes.Structure):
+    _fields_ = [("near", c_double), ("near_zero", c_double), ("relabel", c_float)]
+
+
+class _Options(ctypes.Structure):
+    _fields_ = [("tolerances", _Tolerances)]
+
+
+class _Tolerated(ctypes.Structure):
+    _fields_ = [("tolerances", _Tolerances), ("refusal", c_uint32)]
+
+
 class _Player(ctypes.Structure):
     _fields_ = [
         ("sample_rate", c_float), ("start_time", c_double), ("stop_time", c_double), ("offset", c_double), ("duration", c_double),
         ("loop_state", _LoopState), ("render_state", _RenderState), ("has_start", c_bool), ("has_buffer", c_bool), ("shape", _Shape),
-        ("has_block", c_bool), ("block_time", c_double),
+        ("has_block", c_bool), ("block_time", c_double), ("tolerances", _Tolerances),
     ]  # fmt: skip
 
 
@@ -117,7 +130,11 @@ class _Count(ctypes.Structure):
 _WORDS, _BYTES = POINTER(c_uint32), POINTER(c_uint8)
 _CALLS = {
     "player_size": (c_size_t, []),
+    "options_size": (c_size_t, []),
     "new": (_Told, [c_float]),
+    "tolerances_new": (_Tolerated, [c_double, c_double, c_float]),
+    "default_options": (_Options, []),
+    "new_with": (_Told, [c_float, _Options]),
     "start": (_Told, [_Player, c_double, c_double, c_double]),
     "stop": (_Told, [_Player, c_double]),
     "loop": (_Told, [_Player, c_bool]),
@@ -135,8 +152,8 @@ _CALLS = {
     "clip_frames_with_onset": (c_uint32, [_BYTES, c_size_t, _WORDS, c_size_t]),
     "clip_length": (_Count, [_Shape, c_size_t, c_uint32]),
     "clip_write": (c_uint32, [_Shape, c_uint32, _WORDS, c_size_t, _BYTES, c_size_t]),
-    "converted_shape": (_Shaped, [_Shape, c_size_t, c_float]),
-    "convert": (_Shaped, [_Shape, _WORDS, c_size_t, c_float, _WORDS, c_size_t]),
+    "converted_shape_with": (_Shaped, [_Shape, c_size_t, c_float, _Tolerances]),
+    "convert_with": (_Shaped, [_Shape, _WORDS, c_size_t, c_float, _Tolerances, _WORDS, c_size_t]),
 }
 
 
@@ -147,9 +164,12 @@ def _load_library():
     library = ctypes.CDLL(str(path))
     calls = {}
     for name, (answer, given) in _CALLS.items():
+        if not hasattr(library, "netthimble_" + name):
+            raise ImportError(f"netthimble: {path} has no netthimble_{name}: it is older than this package. Build it with tools/build_library")
         calls[name] = getattr(library, "netthimble_" + name)
         calls[name].restype, calls[name].argtypes = answer, given
-    if calls["player_size"]() != ctypes.sizeof(_Player) or array("f").itemsize != 4 or array("I").itemsize != 4:
+    sizes = calls["player_size"](), calls["options_size"](), array("f").itemsize, array("I").itemsize
+    if sizes != (ctypes.sizeof(_Player), ctypes.sizeof(_Options), 4, 4):
         raise ImportError(f"netthimble: the records of {path} are not those of this package")
     return calls
 
@@ -192,6 +212,64 @@ def factor(cents):
     r = _CALL["factor"](_cents(cents))
     _check("factor", r.refusal)
     return r.factor
+
+
+_DEFAULTS = _CALL["default_options"]().tolerances
+
+
+class Tolerances:
+    """What a player and a conversion take as equal: three numbers from 0 to 1; others are refused with 18. They do not change. A player takes
+    two times, or two positions in the clip, as equal if they are apart by less than `near` times the larger one, and a position as 0 if it is
+    less than `near_zero` seconds from it; a conversion takes two rates as equal if they are apart by at most `relabel` frames a second, which
+    is rounded to the nearest f32 first: 1 + 1e-9 is 1. What is left out is the default: 2**-26, 2**-26, 0.1."""
+
+    __slots__ = ("_values",)
+
+    def __new__(cls, near=_DEFAULTS.near, near_zero=_DEFAULTS.near_zero, relabel=_DEFAULTS.relabel):
+        _check_floats()
+        try:
+            made = _CALL["tolerances_new"](near, near_zero, relabel)
+        except ctypes.ArgumentError:
+            raise TypeError("a tolerance is a number: near, near_zero, relabel") from None
+        _check("tolerances", made.refusal)
+        return cls._of(made.tolerances)
+
+    @classmethod
+    def _of(cls, record):
+        tolerances = super().__new__(cls)
+        object.__setattr__(tolerances, "_values", (record.near, record.near_zero, record.relabel))
+        return tolerances
+
+    near = property(lambda self: self._values[0])
+    near_zero = property(lambda self: self._values[1])
+    relabel = property(lambda self: self._values[2])
+
+    def __setattr__(self, name, value):
+        raise AttributeError("netthimble.Tolerances do not change")
+
+    def __delattr__(self, name):
+        raise AttributeError("netthimble.Tolerances do not change")
+
+    def __eq__(self, other):
+        return self._values == other._values if isinstance(other, Tolerances) else NotImplemented
+
+    def __hash__(self):
+        return hash(self._values)
+
+    def __reduce__(self):
+        return type(self), self._values
+
+    def __repr__(self):
+        return "netthimble.Tolerances(near={!r}, near_zero={!r}, relabel={!r})".format(*self._values)
+
+
+def _tolerances(given):
+    """The library's record of tolerances, the defaults for None."""
+    if given is None:
+        return _DEFAULTS
+    if not isinstance(given, Tolerances):
+        raise TypeError("tolerances are a netthimble.Tolerances")
+    return _Tolerances(*given._values)
 
 
 def _moved(onset, source, target, frames):
@@ -274,18 +352,19 @@ class Clip:
         """The floats of a channel, as a copy."""
         return _floats(self.bits(channel))
 
-    def convert(self, rate):
-        """A clip at another rate. Within 0.1 of its own the rate alone changes; else frame i is read at i x the own rate / `rate`, so it
-        stands at the same instant, between two frames weighted, and past the last one with its bits. The onset is the frame nearest to its
-        instant, or the last one."""
+    def convert(self, rate, *, tolerances=None):
+        """A clip at another rate. Within the relabel distance of its own, 0.1 where no `tolerances` are handed in, the rate alone changes; else
+        frame i is read at i x the own rate / `rate`, so it stands at the same instant, between two frames weighted, and past the last one
+        with its bits. The onset is the frame nearest to its instant, or the last one."""
+        tolerances = _tolerances(tolerances)
         _check_floats()
         source = _Shape(*self._shape)
-        made = _CALL["converted_shape"](source, len(self._lent), rate)
+        made = _CALL["converted_shape_with"](source, len(self._lent), rate, tolerances)
         if not made.refusal:
             words = (c_uint32 * (made.shape.channels * made.shape.frames))()
-            made = _CALL["convert"](source, self._lent, len(self._lent), rate, words, len(words))
+            made = _CALL["convert_with"](source, self._lent, len(self._lent), rate, tolerances, words, len(words))
         _check("convert", made.refusal)
-        if self.frames == 0 or abs(c_float(self.rate - made.shape.rate).value) <= _RELABEL:
+        if self.frames == 0 or abs(c_float(self.rate - made.shape.rate).value) <= tolerances.relabel:
             return Clip._of(made.shape, words, self._onset)
         return Clip._of(made.shape, words, _moved(self._onset, self.rate, made.shape.rate, made.shape.frames))
 
@@ -350,13 +429,14 @@ class Block:
 
 
 class Player:
-    """Plays a clip for an output of `rate` frames a second. One thread at a time may call it."""
+    """Plays a clip for an output of `rate` frames a second, by the `tolerances` that it keeps, or the defaults. One thread at a time may call it."""
 
     __slots__ = ("_record", "_clip")
 
-    def __init__(self, rate):
+    def __init__(self, rate, *, tolerances=None):
+        options = _Options(_tolerances(tolerances))
         _check_floats()
-        told = _CALL["new"](rate)
+        told = _CALL["new_with"](rate, options)
         _check("player", told.refusal)
         self._record, self._clip = told.player, None
 
@@ -418,6 +498,11 @@ class Player:
     def preview(self, time, rate=1.0, factor=None, *, cents=None):
         """The block that `block` would give for the same values, without playing it: the player goes on as if nobody had looked."""
         return self._render("preview", "player_preview", time, rate, factor, cents)
+
+    @property
+    def tolerances(self):
+        """The tolerances that the player was made with."""
+        return Tolerances._of(self._record.tolerances)
 
     @property
     def position(self):

@@ -2,84 +2,20 @@
  * element. Each lent slice ends at a page that nobody may touch. tests/c_cases builds and runs it. */
 #include <fenv.h>
 #include <math.h>
-#include <stdio.h>
-#include <stdlib.h>
-#include <sys/mman.h>
 #include <xmmintrin.h>
-#include "netthimble.h"
+#include "check.h"
 
-static int passed, failed;
+/* ---- the records' bytes */
 
-#define CHECK(fact) check((fact), #fact, __LINE__)
-
-static void check(bool ok, const char *what, int line) {
-    if (ok) passed++;
-    else printf("line %d: not so: %s\n", line, what), failed++;
-}
-
-/* `size` bytes up to a page that nobody may touch; never freed. */
-static void *lent_room(size_t size) {
-    size_t page = 4096, room = (size + page) / page * page;
-    char *at = (char *)mmap(NULL, room + page, PROT_READ | PROT_WRITE, MAP_PRIVATE | MAP_ANONYMOUS, -1, 0);
-    if (at == MAP_FAILED || mprotect(at + room, page, PROT_NONE) != 0) exit(3);
-    return at + room - size;
-}
-
-/* `len` words there, each set to `value`. */
-static uint32_t *lent(size_t len, uint32_t value) {
-    uint32_t *words = (uint32_t *)lent_room(4 * len);
-    for (size_t i = 0; i < len; i++) words[i] = value;
-    return words;
-}
-
-static bool all(const uint32_t *words, size_t from, size_t to, uint32_t value) {
-    for (size_t i = from; i < to; i++)
-        if (words[i] != value) return false;
-    return true;
-}
-
-static netthimble_shape shape(size_t channels, size_t frames, float rate) {
-    netthimble_shape s;
-    s.channels = channels;
-    s.frames = frames;
-    s.rate = rate;
-    return s;
-}
-
-/* Where the fields of a player lie, and the bytes of each; then those of a refusal behind it. */
-static const size_t field_at[] = {0, 8, 16, 24, 32, 40, 48, 56, 64, 72, 73, 80, 88, 89, 96, 97, 104, 112, 120, 128, 136, 144};
-static const size_t field_size[] = {4, 8, 8, 8, 8, 1, 8, 8, 8, 1, 1, 8, 1, 1, 1, 1, 8, 8, 4, 1, 8, 4};
-enum { PLAYER_FIELDS = 21, TOLD_FIELDS = 22 };
-
-/* The same bytes in every field. */
-static bool same(const netthimble_player *a, const netthimble_player *b) {
-    for (size_t i = 0; i < PLAYER_FIELDS; i++)
-        if (memcmp((const char *)a + field_at[i], (const char *)b + field_at[i], field_size[i]) != 0) return false;
-    return true;
-}
-
-/* ---- the records' bytes. On x86-64 a large record is returned through a pointer that is passed first; so the library writes straight
- * into the memory here, over bytes of two fillings: a byte that is the same after both was written. */
-
-typedef void (*any)(void);
 typedef void *(*returning)(void *, float);
-
-static unsigned char one[256], two[256];
-
-static bool written(size_t from, size_t size) {
-    for (size_t i = from; i < from + size; i++)
-        if (one[i] != two[i]) return false;
-    return true;
-}
 
 static void bytes(void) {
     returning make = (returning)(any)netthimble_new;
-    memset(one, 0xAA, sizeof one);
-    memset(two, 0x55, sizeof two);
+    fill();
     CHECK(make(one, 48000.0f) == one);
     CHECK(make(two, 48000.0f) == two);
     for (size_t i = 0; i < TOLD_FIELDS; i++) CHECK(written(field_at[i], field_size[i]));
-    for (size_t i = sizeof(netthimble_told); i < sizeof one; i++) CHECK(one[i] == 0xAA && two[i] == 0x55);
+    CHECK(untouched(sizeof(netthimble_told)));
     CHECK(netthimble_player_size() == sizeof(netthimble_player));
     netthimble_told t;
     memcpy(&t, one, sizeof t);
@@ -465,11 +401,10 @@ static void onset_record(void) {
     reading read = (reading)(any)netthimble_clip_with_onset;
     for (size_t cut = 0; cut < 2; cut++) {
         netthimble_shaped_with_onset r;
-        memset(one, 0xAA, sizeof one);
-        memset(two, 0x55, sizeof two);
+        fill();
         CHECK(read(one, file + cut, len - cut) == one && read(two, file + cut, len - cut) == two);
         for (size_t i = 0; i < 5; i++) CHECK(written(field[i], size[i]));
-        for (size_t i = sizeof r; i < sizeof one; i++) CHECK(one[i] == 0xAA && two[i] == 0x55);
+        CHECK(untouched(sizeof r));
         memcpy(&r, one, sizeof r);
         CHECK(cut ? r.refusal == 15 && is_shape(r.shape, shape(0, 0, 0)) && r.onset == 0 : r.refusal == 0 && is_shape(r.shape, shape(2, 3, 44100.0f)) && r.onset == 2);
     }

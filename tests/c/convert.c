@@ -1,5 +1,5 @@
-/* Conversions beside a reading of document 02, 2.4, with the processor's floats: known cases, and random shapes, rates and frames. Use:
- * convert [SEED [COUNT]]. Prints what differs, and a line of counts. tests/c_cases builds it with -ffp-contract=off and runs it. */
+/* Conversions beside a reading of document 02, 2.4 and 2.7, with the processor's floats: known cases, and random shapes, rates, frames and
+ * tolerances. Use: convert [SEED [COUNT]]. Prints what differs, and a line of counts. tests/c_cases builds it with -ffp-contract=off and runs it. */
 #include <inttypes.h>
 #include <math.h>
 #include <stdio.h>
@@ -9,7 +9,11 @@
 enum { MOST_FRAMES = 16777216, MOST_WORDS = 60000, NAN_BITS = 0x7FC00000, UNTOUCHED = 0x5A5A5A5A };
 
 static int passed, failed;
-static uint64_t state, changes, singles, held;
+static uint64_t state, changes, singles, held, relabelled;
+
+/* Those that a conversion is handed. With the defaults the calls without tolerances are made too. */
+static netthimble_tolerances tolerances;
+static bool by_default;
 
 /* ---- the reading */
 
@@ -18,7 +22,7 @@ static bool is_rate(float rate) {
 }
 
 static bool only_relabels(netthimble_shape s, float rate) {
-    return fabsf(s.rate - rate) <= 0.1f || s.frames == 0;
+    return fabsf(s.rate - rate) <= tolerances.relabel || s.frames == 0;
 }
 
 /* The refusal's number, or 0 and the result's frames. */
@@ -77,29 +81,38 @@ static size_t first_other(netthimble_shape s, const uint32_t *samples, float rat
     return s.channels * frames;
 }
 
+static netthimble_shaped shape_of(netthimble_shape s, size_t len, float rate) {
+    return by_default ? netthimble_converted_shape(s, len, rate) : netthimble_converted_shape_with(s, len, rate, tolerances);
+}
+
+static netthimble_shaped converted(netthimble_shape s, const uint32_t *samples, size_t len, float rate, uint32_t *out, size_t out_len) {
+    return by_default ? netthimble_convert(s, samples, len, rate, out, out_len) : netthimble_convert_with(s, samples, len, rate, tolerances, out, out_len);
+}
+
 /* One conversion, refused or not: the shape's call, the call with an output of another length, and the call itself. */
 static void compare(netthimble_shape s, const uint32_t *samples, float rate) {
     size_t len = s.channels * s.frames, frames = 0;
     uint32_t refusal = read_shape(s, rate, &frames);
-    netthimble_shaped r = netthimble_converted_shape(s, len, rate);
+    netthimble_shaped r = shape_of(s, len, rate);
     if (refusal != 0) {
         uint32_t word = UNTOUCHED;
         check(r.refusal == refusal && r.shape.channels == 0 && r.shape.frames == 0, "refused shape", s, rate, r.refusal);
-        r = netthimble_convert(s, samples, len, rate, &word, 1);
+        r = converted(s, samples, len, rate, &word, 1);
         check(r.refusal == refusal && word == UNTOUCHED, "refused", s, rate, r.refusal);
         return;
     }
     check(is_shape(r, s, rate, frames), "shape", s, rate, r.shape.frames);
     size_t made = s.channels * frames;
     uint32_t *out = words_of(made + 2, UNTOUCHED);
-    check(netthimble_convert(s, samples, len, rate, out + 1, made + 1).refusal == 8 && out[1] == UNTOUCHED, "8", s, rate, made + 1);
-    r = netthimble_convert(s, samples, len, rate, out + 1, made);
+    check(converted(s, samples, len, rate, out + 1, made + 1).refusal == 8 && out[1] == UNTOUCHED, "8", s, rate, made + 1);
+    r = converted(s, samples, len, rate, out + 1, made);
     check(is_shape(r, s, rate, frames), "shape of the result", s, rate, r.shape.frames);
     size_t at = first_other(s, samples, rate, out + 1, frames);
     check(at == made, "word", s, rate, at);
     check(out[0] == UNTOUCHED && out[made + 1] == UNTOUCHED, "beside the output", s, rate, made);
     changes += !only_relabels(s, rate);
     singles += !only_relabels(s, rate) && frames == 1;
+    relabelled += only_relabels(s, rate) && s.frames > 0 && fabsf(s.rate - rate) > 0.1f;
     free(out);
 }
 
@@ -174,6 +187,18 @@ static float other_rate(netthimble_shape s) {
     }
 }
 
+/* Tolerances for a conversion: the relabel distance is the rates' own, or beside it, or any, and the near tolerances are no matter. */
+static void draw_tolerances(float difference) {
+    static const float ordinary[] = {0, -0.0f, 1, 0.1f, 0.5f, 8.6736174e-19f, 1.4e-45f};
+    netthimble_tolerances made = netthimble_default_options().tolerances;
+    by_default = draw(2) == 0;
+    float relabel = ordinary[draw(7)];
+    if (draw(2) == 0) relabel = draw(2) == 0 ? difference : nextafterf(difference, draw(2) == 0 ? 0.0f : INFINITY);
+    if (!by_default && netthimble_tolerances_set(&made, draw(3) / 2.0, draw(3) / 2.0, relabel) != 0)
+        netthimble_tolerances_set(&made, draw(3) / 2.0, draw(3) / 2.0, ordinary[draw(7)]);
+    tolerances = made;
+}
+
 static uint32_t any_frame(uint64_t kind) {
     static const uint32_t special[] = {0, 0x80000000, 1, 0x80000001, 0x007FFFFF, 0x00800000, 0x7F7FFFFF, 0xFF7FFFFF, 0x7F800000, 0xFF800000,
                                        0x7FC00000, 0xFFC12345, 0x7F800001, 0xFFBFFFFF, 0x7FFFFFFF, 0x3F800000, 0xBF800000, 0x33800000};
@@ -187,6 +212,7 @@ static void random_one(void) {
     netthimble_shape s = shape(channels[draw(9)], draw(3) == 0 ? draw(400) : draw(8), any_rate());
     float rate = other_rate(s);
     if (draw(100) == 0) s.channels = draw(2) == 0 ? 0 : 33;
+    draw_tolerances(fabsf(s.rate - rate));
     size_t frames;
     if (read_shape(s, rate, &frames) == 0 && s.channels * frames > MOST_WORDS) s.frames = 2;
     uint64_t kind = draw(4);
@@ -210,9 +236,12 @@ static void longest(void) {
 int main(int argc, char **argv) {
     state = argc > 1 ? strtoull(argv[1], NULL, 10) * 2 + 1 : 1;
     long count = argc > 2 ? atol(argv[2]) : 20000;
+    tolerances = netthimble_default_options().tolerances;
+    by_default = true;
     all_known();
     longest();
     for (long i = 0; i < count; i++) random_one();
-    printf("convert: %d passed, %d failed; %" PRIu64 " real changes, %" PRIu64 " to one frame, %" PRIu64 " frames past the last\n", passed, failed, changes, singles, held);
+    printf("convert: %d passed, %d failed; %" PRIu64 " real changes, %" PRIu64 " to one frame, %" PRIu64 " frames past the last, ", passed, failed, changes, singles, held);
+    printf("%" PRIu64 " relabelled over 0.1 apart\n", relabelled);
     return failed != 0;
 }

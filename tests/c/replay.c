@@ -13,9 +13,14 @@ static size_t clip_len;
 /* The call that waits for its words: its name, its numbers, and the words that it has and needs. */
 static char call;
 static size_t number[6];
-static float rate[2];
+static float rate[3];
+static double tolerance[2];
 static uint32_t *words;
 static size_t got, needed;
+
+/* The tolerances that a conversion is handed, if any. */
+static bool is_handed;
+static netthimble_tolerances handed;
 
 static void refused(uint32_t refusal) {
     printf("X %" PRIu32 "\n", refusal);
@@ -106,16 +111,24 @@ static void part(void) {
     free(rest);
 }
 
+static netthimble_shaped converted_shape(netthimble_shape s) {
+    return is_handed ? netthimble_converted_shape_with(s, needed, rate[1], handed) : netthimble_converted_shape(s, needed, rate[1]);
+}
+
+static netthimble_shaped converted(netthimble_shape s, uint32_t *out, size_t len) {
+    return is_handed ? netthimble_convert_with(s, words, needed, rate[1], handed, out, len) : netthimble_convert(s, words, needed, rate[1], out, len);
+}
+
 static void convert(void) {
     netthimble_shape s = shape(number[0], number[1], rate[0]);
-    netthimble_shaped r = netthimble_converted_shape(s, needed, rate[1]);
+    netthimble_shaped r = converted_shape(s);
     if (r.refusal != 0) {
         refused(r.refusal);
         return;
     }
     size_t len = r.shape.channels * r.shape.frames;
     uint32_t *out = words_of(len, 0xDEADBEEF);
-    r = netthimble_convert(s, words, needed, rate[1], out, len);
+    r = converted(s, out, len);
     if (r.refusal != 0) refused(r.refusal);
     else print_shape('Q', r.shape, out);
     free(out);
@@ -139,12 +152,14 @@ static bool is_bad_shape(size_t channels, size_t frames) {
     return channels < 1 || channels > 32 || frames > MOST_FRAMES;
 }
 
-/* Whether the words are those of a call's first line; its numbers are stored. In a form, d is a decimal and f an f32. */
+/* Whether the words are those of a call's first line; its numbers are stored. In a form, d is a decimal, f an f32 and g an f64. */
 static bool is_call(const word *w, size_t count, const char *name, const char *form) {
-    size_t numbers = 0, rates = 0;
+    size_t numbers = 0, rates = 0, others = 0;
     if (!is(w[0], name) || count != 1 + strlen(form)) return false;
-    for (size_t i = 0; form[i]; i++)
-        if (form[i] == 'd' ? !dec(w[i + 1], &number[numbers++]) : !f32_word(w[i + 1], &rate[rates++])) return false;
+    for (size_t i = 0; form[i]; i++) {
+        bool ok = form[i] == 'd' ? dec(w[i + 1], &number[numbers++]) : form[i] == 'f' ? f32_word(w[i + 1], &rate[rates++]) : f64_word(w[i + 1], &tolerance[others++]);
+        if (!ok) return false;
+    }
     return true;
 }
 
@@ -160,13 +175,22 @@ static void await(char name, bool two, size_t more) {
     if (needed == 0) make_call();
 }
 
+/* A conversion, with the tolerances of its line or none: these are made before the shape is looked at. */
+static void await_conversion(bool with) {
+    uint32_t refusal = with ? netthimble_tolerances_set(&handed, tolerance[0], tolerance[1], rate[2]) : 0;
+    is_handed = with;
+    if (refusal != 0) refused(refusal);
+    else await('Q', false, 0);
+}
+
 static bool first_line(const word *w, size_t count) {
     if (has_player && is_call(w, count, "C", "ddf")) await('C', false, 0);
     else if (is_call(w, count, "KF", "ddddd") && number[4] <= MOST_FRAMES) await('F', false, 0);
     else if (is_call(w, count, "KT", "ddddd") && number[4] <= MOST_FRAMES) await('T', false, number[4]);
     else if (is_call(w, count, "J", "ddfddf")) await('J', true, 0);
     else if (is_call(w, count, "V", "ddfd")) await('V', false, 0);
-    else if (is_call(w, count, "Q", "ddff")) await('Q', false, 0);
+    else if (is_call(w, count, "Q", "ddff")) await_conversion(false);
+    else if (is_call(w, count, "Q", "ddffggf")) await_conversion(true);
     else return false;
     return true;
 }
@@ -252,18 +276,28 @@ static void print_player(void) {
     else printf(" none\n");
 }
 
-static void make_player(float sample_rate) {
-    uint32_t refusal = netthimble_player_new(&player, sample_rate);
+/* Makes a player, with tolerances where the words name them; false where they are no such line. */
+static bool make_player(const word *w, size_t count) {
+    float sample_rate, relabel;
+    double near, near_zero;
+    netthimble_options options = netthimble_default_options();
+    uint32_t refusal = 0;
+    if ((count != 2 && count != 5) || !is(w[0], "R") || !f32_word(w[1], &sample_rate)) return false;
+    if (count == 5) {
+        if (!f64_word(w[2], &near) || !f64_word(w[3], &near_zero) || !f32_word(w[4], &relabel)) return false;
+        refusal = netthimble_tolerances_set(&options.tolerances, near, near_zero, relabel);
+    }
+    if (refusal == 0) refusal = count == 2 ? netthimble_player_new(&player, sample_rate) : netthimble_player_new_with(&player, sample_rate, options);
     free(clip);
     clip = NULL;
     clip_len = 0;
     has_player = refusal == 0;
     if (refusal != 0) refused(refusal);
+    return true;
 }
 
 static void obey(const char *line, size_t len) {
     word w[MOST_WORDS];
-    float sample_rate;
     size_t count = split(line, len, w);
     if (call != 0) {
         if (count > 0 && more_words(w, count)) return;
@@ -273,7 +307,7 @@ static void obey(const char *line, size_t len) {
         printf("X 0\n");
     }
     if (len > 0 && line[0] == '#') printf("%.*s\n", (int)len, line);
-    else if (count == 2 && is(w[0], "R") && f32_word(w[1], &sample_rate)) make_player(sample_rate);
+    else if (count > 0 && make_player(w, count)) return;
     else if (count == 1 && is(w[0], "Z") && has_player) print_player();
     else if (count == 0 || !(first_line(w, count) || (has_player && (message(w, count) || block(w, count))))) printf("X 0\n");
 }

@@ -106,6 +106,7 @@ some refused.Speed = omega arith
 some refused.Layout = omega arith
 some refused.Cents = omega arith
 some refused.Onset = omega arith
+some refused.Tolerance = omega arith
 
 refuses : (p : Player) (passed : Result Unit Refusal) (r : BlockReport) → (passed ≡ Ok tt → ⊥) → Refuses p (after_checks passed r)
 refuses p (Ok tt) r never = absurd (never refl)

@@ -60,4 +60,5 @@ moved_to p q = record {
   shape = p.shape;
   has_block = q.has_block;
   block_time = q.block_time;
+  tolerances = p.tolerances;
 }

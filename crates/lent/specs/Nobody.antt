@@ -5,6 +5,7 @@ use Rattle.std.specs.Float.{binary32}
 use Rattle.std.specs.Float.Ieee.{of_bits}
 use Rattle.buffer.specs.declared.Shape.{Shape}
 use Rattle.seconds.specs.Seconds.{context, in_clip, none}
+use Rattle.tolerances.specs.Tolerances.{defaults}
 use Rattle.player.specs.Record.{shape_of, loop_of, render_of}
 use Rattle.player.specs.Messages.{handled, buffered}
 use Rattle.player.specs.Block.{rendered}
@@ -35,6 +36,7 @@ nobody = record {
   shape = no_shape;
   has_block = false;
   block_time = context none;
+  tolerances = defaults;
 }
 
 -- it holds a buffer of no channels

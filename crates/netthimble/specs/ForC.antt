@@ -2,16 +2,21 @@
 -- place': 'a definition gives this paper's number and values for each of its cases'). Definitions only.
 -- The player's calls are in Lent.antt of the crate `lent`.
 use Rattle.std.specs.Prelude.{ℕ, Result, Ok, Err}
+use Rattle.std.specs.Float.{binary32, binary64}
+use Rattle.std.specs.Float.Ieee.{of_bits}
 use Rattle.buffer.specs.Refusals.{number}
 use Rattle.buffer.specs.declared.refusals.Refusal.{Refusal}
 use Rattle.buffer.specs.declared.Shape.{Shape}
 use Rattle.clip.specs.declared.ClipHeader.{ClipHeader}
 use Rattle.clip.specs.declared.WithOnset.{WithOnset}
 use Rattle.lent.specs.Nobody.{no_shape}
+use Rattle.tolerances.specs.declared.Tolerances.{Tolerances}
+use Rattle.tolerances.specs.Tolerances.{tolerances_of}
 use Rattle.netthimble.specs.declared.Shaped.{Shaped}
 use Rattle.netthimble.specs.declared.Parts.{Parts}
 use Rattle.netthimble.specs.declared.Count.{Count}
 use Rattle.netthimble.specs.declared.ShapedWithOnset.{ShapedWithOnset}
+use Rattle.netthimble.specs.declared.Tolerated.{Tolerated}
 
 -- reading a clip's header: its shape
 abbrev pub clip_for : Result ClipHeader Refusal → Shaped
@@ -32,6 +37,14 @@ refusal_for (Err refused) = number refused
 abbrev pub count_for : Result ℕ Refusal → Count
 count_for (Ok n) = record { count = n; refusal = 0 }
 count_for (Err refused) = record { count = 0; refusal = number refused }
+
+-- making tolerances: the record
+abbrev pub no_tolerances : Tolerances
+no_tolerances = tolerances_of (of_bits binary64 0) (of_bits binary64 0) (of_bits binary32 0)
+
+abbrev pub tolerated_for : Result Tolerances Refusal → Tolerated
+tolerated_for (Ok t) = record { tolerances = t; refusal = 0 }
+tolerated_for (Err refused) = record { tolerances = no_tolerances; refusal = number refused }
 
 -- extend and convert: the result's shape
 abbrev pub made_for : Result Shape Refusal → Shaped

@@ -6,11 +6,12 @@ ghost use Rattle.buffer.specs.Answers.{answer_of, stored};
 ghost use Rattle.reshape.specs.Fitting.{fitted};
 ghost use Rattle.reshape.specs.Joining.{extended_shape, joined};
 ghost use Rattle.reshape.specs.Parting.{split_shapes, both_fitted, first_part, rest_part};
-ghost use Rattle.reshape.specs.Converting.{converted_shape, converted_samples};
+ghost use Rattle.reshape.specs.Converting.{converted_shape, converted_samples, converted_shape_with, converted_samples_with};
 ghost use Rattle.netthimble.specs.ForC.{count_for, made_for, parted_for};
 
 use super::{Count, Parts, Shaped};
 use buffer::Shape;
+use tolerances::Tolerances;
 
 // Copies the frames of the channel `number` from `offset` on into `destination`.
 #[unsafe(no_mangle)]
@@ -128,4 +129,34 @@ pub extern "C" fn netthimble_convert(
         (converted_samples shape samples.now rate) out.old) }
 {
     reshape::convert(shape, samples, rate, out).into()
+}
+
+// The shape of a buffer of `len` samples, converted to another rate with these tolerances.
+#[unsafe(no_mangle)]
+pub extern "C" fn netthimble_converted_shape_with(
+    shape: Shape,
+    len: usize,
+    rate: f32,
+    tolerances: Tolerances,
+) -> Shaped
+    ensures { result ≡ made_for (converted_shape_with tolerances shape len rate) }
+{
+    reshape::converted_shape_with(shape, len, rate, tolerances).into()
+}
+
+// Converts the buffer of `samples` to another rate with these tolerances, into `out`.
+#[unsafe(no_mangle)]
+pub extern "C" fn netthimble_convert_with(
+    shape: Shape,
+    samples: &[u32],
+    rate: f32,
+    tolerances: Tolerances,
+    out: &mut [u32],
+) -> Shaped
+    ensures { (result ≡ made_for (fitted (converted_shape_with tolerances shape (length samples.now) rate) (length out.old)))
+        × (out.new
+        ≡ stored (answer_of (fitted (converted_shape_with tolerances shape (length samples.now) rate) (length out.old)))
+        (converted_samples_with tolerances shape samples.now rate) out.old) }
+{
+    reshape::convert_with(shape, samples, rate, tolerances, out).into()
 }

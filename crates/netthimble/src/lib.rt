@@ -6,6 +6,7 @@
 mod buffers;
 mod clips;
 mod playing;
+mod settings;
 
 use buffer::{Refusal, Shape};
 use clip::WithOnset;
@@ -13,6 +14,7 @@ use lent::no_shape;
 pub use playing::{
     netthimble_player_process, netthimble_player_process_cents, netthimble_player_set_buffer,
 };
+use tolerances::Tolerances;
 
 // The shape of a clip or of a buffer that is made. C sees this record and those below, and an
 // exported function can't return an enum: so a refusal's number stands beside the values.
@@ -96,6 +98,38 @@ impl From<Result<(Shape, Shape), Refusal>> for Parts {
             Err(refusal) => Self {
                 first: no_shape(),
                 rest: no_shape(),
+                refusal: refusal.number(),
+            },
+        }
+    }
+}
+
+// Tolerances that are made; or the number of their refusal beside zeros.
+#[repr(C)]
+#[derive(Clone, Copy)]
+pub struct Tolerated {
+    pub tolerances: Tolerances,
+    pub refusal: u32,
+}
+
+impl From<Result<Tolerances, Refusal>> for Tolerated {
+    ghost use Rattle.std.specs.Prelude.{◌≡◌};
+    ghost use Rattle.netthimble.specs.ForC.{tolerated_for};
+
+    ghost from_gives = { λ answer tolerated. tolerated ≡ tolerated_for answer };
+
+    fn from(answer: Result<Tolerances, Refusal>) -> Self {
+        match answer {
+            Ok(tolerances) => Self {
+                tolerances,
+                refusal: 0,
+            },
+            Err(refusal) => Self {
+                tolerances: Tolerances {
+                    near: 0.0,
+                    near_zero: 0.0,
+                    relabel: 0.0,
+                },
                 refusal: refusal.number(),
             },
         }

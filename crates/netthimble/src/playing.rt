@@ -1,7 +1,7 @@
 // A fresh player, the messages, and the factor of cents, by value; the buffer call and the blocks,
 // on the lent player, which is altered there, as the Rust's `&mut self` does.
 ghost use Rattle.std.specs.Prelude.{◌≡◌, length};
-ghost use Rattle.player.specs.Messages.{made, handled, buffered};
+ghost use Rattle.player.specs.Messages.{made, made_with, handled, buffered};
 ghost use Rattle.player.specs.Block.{rendered, output};
 ghost use Rattle.detune.specs.Detune.{factored};
 ghost use Rattle.cents.specs.Cents.{rendered_cents, output_cents};
@@ -12,7 +12,7 @@ use lent::{
     BlockAnswer, Factored, Told, after_call, block_by_value, block_on_lent, buffer_by_value,
     factor_of, in_cents, message_by_value, nobody,
 };
-use player::{ControlMessage, Player};
+use player::{ControlMessage, Player, PlayerOptions};
 
 // A fresh player for an output rate.
 #[unsafe(no_mangle)]
@@ -20,6 +20,14 @@ pub extern "C" fn netthimble_new(sample_rate: f32) -> Told
     ensures { result ≡ after_call nobody (made sample_rate) }
 {
     after_call(nobody(), Player::new(sample_rate))
+}
+
+// A fresh player for an output rate, with these options.
+#[unsafe(no_mangle)]
+pub extern "C" fn netthimble_new_with(sample_rate: f32, options: PlayerOptions) -> Told
+    ensures { result ≡ after_call nobody (made_with sample_rate options) }
+{
+    after_call(nobody(), Player::with_options(sample_rate, options))
 }
 
 // Start at `when` seconds of the context, `offset` seconds into the clip, for `duration` seconds of
@@ -137,7 +145,7 @@ pub extern "C" fn netthimble_player_process_cents(
 // The bytes of a player's record.
 #[unsafe(no_mangle)]
 pub extern "C" fn netthimble_player_size() -> usize
-    ensures { result ≡ 144 }
+    ensures { result ≡ 168 }
 {
     size_of::<Player>()
 }
