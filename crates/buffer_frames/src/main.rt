@@ -6,6 +6,7 @@
 use buffer::{Refusal, Shape};
 use rounding::BinaryFloat;
 use std::{fmt, io};
+use tolerances::Tolerances;
 
 // An answer: its values, or X and the refusal's number.
 #[derive(Drop)]
@@ -174,6 +175,33 @@ fn run_conversions(rt: &impl Print) -> io::Result<()> {
     print_made(rt, held, &six)
 }
 
+// The frames 0 and 3 again, with other relabel distances: with 0, to 48,000.09375 makes three frames; with 1/2, to 48,000.5
+// relabels, and to 48,000.50390625 makes three frames.
+fn run_relabels(rt: &impl Print) -> io::Result<()> {
+    let samples = [0u32, 0x4040_0000];
+    let at_48000 = Shape {
+        channels: 1,
+        frames: 2,
+        rate: 48000.0,
+    };
+    let none = Tolerances {
+        relabel: 0.0,
+        ..Tolerances::default()
+    };
+    let half = Tolerances {
+        relabel: 0.5,
+        ..none
+    };
+    let mut two = [0u32; 2];
+    let mut three = [0u32; 3];
+    let converted = reshape::convert_with(at_48000, &samples, 48000.09375, none, &mut three);
+    print_made(rt, converted, &three)?;
+    let relabelled = reshape::convert_with(at_48000, &samples, 48000.5, half, &mut two);
+    print_made(rt, relabelled, &two)?;
+    let beyond = reshape::convert_with(at_48000, &samples, 48000.50390625, half, &mut three);
+    print_made(rt, beyond, &three)
+}
+
 // Answers that need no samples: the length is worked in f64, and each refusal of a shape's call.
 fn run_shapes(rt: &impl Print) -> io::Result<()> {
     let none = [0u32; 0];
@@ -213,5 +241,6 @@ fn main(rt: HostRuntime) -> io::Result<()> {
     run_shapes(&rt)?;
     run_copies(&rt)?;
     run_joins(&rt)?;
-    run_conversions(&rt)
+    run_conversions(&rt)?;
+    run_relabels(&rt)
 }

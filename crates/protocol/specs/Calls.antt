@@ -11,7 +11,7 @@ HasShapesWithinLimits (CopyFrom c) = IsWithinLimits c.shape
 HasShapesWithinLimits (CopyTo c) = IsWithinLimits c.shape
 HasShapesWithinLimits (Extend s t) = IsWithinLimits s × IsWithinLimits t
 HasShapesWithinLimits (Split s point) = IsWithinLimits s
-HasShapesWithinLimits (Convert s rate) = IsWithinLimits s
+HasShapesWithinLimits (Convert s rate t) = IsWithinLimits s
 
 -- the column 'words'
 abbrev pub words_of : Call → ℕ
@@ -20,4 +20,4 @@ words_of (CopyFrom c) = size_of c.shape
 words_of (CopyTo c) = size_of c.shape + c.len
 words_of (Extend s t) = size_of s + size_of t
 words_of (Split s point) = size_of s
-words_of (Convert s rate) = size_of s
+words_of (Convert s rate t) = size_of s

@@ -1,11 +1,14 @@
 -- A line as an order (oracle/PROTOCOL.md). Definitions only. Each form has the protocol's words in their order, with a name for each; 'a line
 -- of any other form is unknown', and 'so is a wrong count of words'.
-use Rattle.std.specs.Prelude.{List, ℕ, Bool, cond, codes, bytes_eq, Float, Option, Some, None}
+use Rattle.std.specs.Prelude.{List, ℕ, Bool, cond, codes, bytes_eq, Float, Option, Some, None, Result, Ok}
 use Rattle.std.specs.Float.{binary32}
 use Rattle.std.specs.Float.Ieee.{of_bits}
 use Rattle.buffer.specs.declared.Shape.{Shape}
+use Rattle.buffer.specs.declared.refusals.Refusal.{Refusal}
 use Rattle.player.specs.declared.ControlMessage.{ControlMessage}
 use Rattle.player.specs.declared.ControlMessage.TheVariants.{Start, Stop, Loop, LoopStart, LoopEnd}
+use Rattle.tolerances.specs.declared.Tolerances.{Tolerances}
+use Rattle.tolerances.specs.Tolerances.{defaults, made}
 use Rattle.protocol.specs.declared.calls.ChannelCopy.{ChannelCopy}
 use Rattle.protocol.specs.declared.calls.Call.{Call}
 use Rattle.protocol.specs.declared.calls.Call.TheVariants as calls
@@ -33,7 +36,7 @@ pub record Asked : Type 0 where
 
 -- what an order asks for
 pub data Line : Type 0 where
-  Rate : Float → Line
+  Fresh : Float → Result Tolerances Refusal → Line
   Message : ControlMessage → Line
   Block : Asked → Line
   Preview : Asked → Line
@@ -43,7 +46,7 @@ pub data Line : Type 0 where
   CopyTo : Copied → Line
   Extend : Shape → Shape → Line
   Split : Shape → ℕ → Line
-  Convert : Shape → Float → Line
+  Convert : Shape → Float → Result Tolerances Refusal → Line
 
 -- what the program's types say
 abbrev pub copied : ChannelCopy → Copied
@@ -58,15 +61,16 @@ line_of_call (calls.CopyFrom c) = CopyFrom (copied c)
 line_of_call (calls.CopyTo c) = CopyTo (copied c)
 line_of_call (calls.Extend s t) = Extend s t
 line_of_call (calls.Split s point) = Split s point
-line_of_call (calls.Convert s wanted) = Convert s wanted
+line_of_call (calls.Convert s wanted t) = Convert s wanted (Ok t)
 
 abbrev pub line_of : Order → Line
-line_of (orders.Rate r) = Rate r
+line_of (orders.Fresh r t) = Fresh r t
 line_of (orders.Message m) = Message m
 line_of (orders.Block q) = Block (asked q)
 line_of (orders.Preview q) = Preview (asked q)
 line_of orders.Show = Show
 line_of (orders.Call c) = line_of_call c
+line_of (orders.Convert s wanted t) = Convert s wanted t
 
 -- `dec`, `f32`, `f64`, a block's factor or cents, and `0|1`
 abbrev pub dec : Reads ℕ
@@ -94,6 +98,10 @@ shape = do
   frames ← dec
   rate ← f32
   give (record { channels = channels; frames = frames; rate = rate })
+
+-- `[f64 f64 f32]`: 'near, near zero, relabel', 'all three or none', made where the line is read; none are 'the defaults'
+unfoldable pub tolerances : Reads (Result Tolerances Refusal)
+tolerances = optional (Ok defaults) (f64 >>= λ near. f64 >>= λ near_zero. f32 >>= λ relabel. give (made near near_zero relabel))
 
 -- the words that there is room for (oracle/README.md, 'Our side'), and 'Buffers of KF and KT are at 48,000 (473B8000)'
 abbrev pub ROOM : ℕ
@@ -132,7 +140,7 @@ request read_speed = do
 -- the words behind a line's name
 unfoldable pub named : List ℕ → Reads Line
 named name =
-    cond (bytes_eq name (codes "R")) (f32 >>= λ r. give (Rate r))
+    cond (bytes_eq name (codes "R")) (f32 >>= λ r. tolerances >>= λ t. give (Fresh r t))
     (cond (bytes_eq name (codes "S")) (f64 >>= λ start. f64 >>= λ offset. f64 >>= λ duration. give (Message (Start start offset duration)))
     (cond (bytes_eq name (codes "T")) (f64 >>= λ x. give (Message (Stop x)))
     (cond (bytes_eq name (codes "P")) (f64 >>= λ x. give (Message (LoopStart x)))
@@ -148,7 +156,7 @@ named name =
     (cond (bytes_eq name (codes "KT")) (copy >>= λ c. give (CopyTo c))
     (cond (bytes_eq name (codes "J")) (shape >>= λ s. shape >>= λ t. give (Extend s t))
     (cond (bytes_eq name (codes "V")) (shape >>= λ s. dec >>= λ point. give (Split s point))
-    (cond (bytes_eq name (codes "Q")) (shape >>= λ s. f32 >>= λ wanted. give (Convert s wanted))
+    (cond (bytes_eq name (codes "Q")) (shape >>= λ s. f32 >>= λ wanted. tolerances >>= λ t. give (Convert s wanted t))
     (λ ws. None)))))))))))))))))
 
 -- the order that the words of a line are

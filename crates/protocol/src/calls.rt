@@ -5,6 +5,7 @@ ghost use Rattle.protocol.specs.declared.calls.TheConstants.{ROOM};
 use super::sizes::size;
 use super::words::Words;
 use buffer::Shape;
+use tolerances::Tolerances;
 
 // The words that there is room for: of a clip, of a call and of a result. The protocol allows more.
 pub const ROOM: usize = 262_144;
@@ -30,7 +31,7 @@ pub enum Call {
     CopyTo(ChannelCopy),
     Extend(Shape, Shape),
     Split(Shape, usize),
-    Convert(Shape, f32),
+    Convert(Shape, f32, Tolerances),
 }
 
 impl Call {
@@ -42,7 +43,7 @@ impl Call {
         ensures { SomeIff result (HasShapesWithinLimits self) (words_of self) }
     {
         match self {
-            Call::Clip(shape) | Call::Split(shape, _) | Call::Convert(shape, _) => size(shape),
+            Call::Clip(shape) | Call::Split(shape, _) | Call::Convert(shape, _, _) => size(shape),
             Call::CopyFrom(copy) => size(copy.shape),
             Call::CopyTo(copy) => Some(size(copy.shape)? + copy.len),
             Call::Extend(first, second) => Some(size(first)? + size(second)?),

@@ -6,7 +6,9 @@ ghost use Rattle.protocol.specs.declared.orders.TheConstants.{OUTPUT_MAX};
 
 use super::calls::{Call, ChannelCopy, ROOM};
 use super::words::Words;
+use buffer::{Refusal, Shape};
 use player::ControlMessage;
+use tolerances::Tolerances;
 
 // The length of the output that a block is lent, where its line names none, and the most that it names.
 const OUTPUT: usize = 4_096;
@@ -33,14 +35,16 @@ pub struct Request {
     ghost samples_fit: { ForSome samples (λ n. n ≤ ROOM) },
 }
 
+// A fresh player's tolerances and a conversion's are made where the line is read, and may be refused.
 #[derive(Clone, Copy)]
 pub enum Order {
-    Rate(f32),
+    Fresh(f32, Result<Tolerances, Refusal>),
     Message(ControlMessage),
     Block(Request),
     Preview(Request),
     Show,
     Call(Call),
+    Convert(Shape, f32, Result<Tolerances, Refusal>),
 }
 
 impl Speed {
@@ -119,7 +123,7 @@ impl Order {
         ensures { Gives line_of result (left words.new) (named name.now (left words.old)) }
     {
         Some(match name {
-            b"R" => Order::Rate(words.f32()?),
+            b"R" => Order::Fresh(words.f32()?, words.tolerances()?),
             b"S" => Order::Message(ControlMessage::Start(words.f64()?, words.f64()?, words.f64()?)),
             b"T" => Order::Message(ControlMessage::Stop(words.f64()?)),
             b"P" => Order::Message(ControlMessage::LoopStart(words.f64()?)),
@@ -135,7 +139,7 @@ impl Order {
             b"KT" => Order::Call(Call::CopyTo(ChannelCopy::read(words)?)),
             b"J" => Order::Call(Call::Extend(words.shape()?, words.shape()?)),
             b"V" => Order::Call(Call::Split(words.shape()?, words.decimal()?)),
-            b"Q" => Order::Call(Call::Convert(words.shape()?, words.f32()?)),
+            b"Q" => Order::Convert(words.shape()?, words.f32()?, words.tolerances()?),
             _ => return None,
         })
     }

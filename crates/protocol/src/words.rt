@@ -1,8 +1,9 @@
 // The words of a line, one after another.
 
 use super::numbers::{bits32, bits64, decimal};
-use buffer::Shape;
+use buffer::{Refusal, Shape};
 use rounding::BinaryFloat;
+use tolerances::Tolerances;
 
 // What is left of a line: its words, parted by exactly one space; nothing behind the last one. Std's
 // `split` has a closure in its type, which each reader would have to name, and can't be asked whether a
@@ -16,7 +17,7 @@ impl<'a> Words<'a> {
     ghost use Rattle.std.specs.Prelude.{◌≡◌, ◌≤◌, length, eqb, IfSome, Some};
     ghost use Rattle.protocol.specs.Numbers.{decimal, decimal_up_to, hex, f32_word, f64_word, i32_word, flag_word};
     ghost use Rattle.protocol.specs.Words.{words, left, Gives, Takes};
-    ghost use Rattle.protocol.specs.Orders.{shape};
+    ghost use Rattle.protocol.specs.Orders.{shape, tolerances};
 
     #[tactic(auto, unfolding(crate::specs::Words::words_of_rest))]
     pub fn of(line: &'a [u8]) -> Words<'a>
@@ -115,6 +116,17 @@ impl<'a> Words<'a> {
             frames: self.decimal()?,
             rate: self.f32()?,
         })
+    }
+
+    // Tolerances, made at once: near, near zero and relabel; the defaults where no word is left.
+    #[tactic(auto, unfolding(crate::specs::Orders::tolerances))]
+    pub fn tolerances(&mut self) -> Option<Result<Tolerances, Refusal>>
+        ensures { Gives (λ t. t) result (left self.new) (tolerances (left self.old)) }
+    {
+        if self.is_empty() {
+            return Some(Ok(Tolerances::default()));
+        }
+        Some(Tolerances::new(self.f64()?, self.f64()?, self.f32()?))
     }
 
     // `0` or `1`.

@@ -4,6 +4,7 @@ use buffer::Shape;
 use protocol::calls::{ChannelCopy, ROOM};
 use protocol::print::{put_buffer, put_channel};
 use protocol::sizes::size;
+use tolerances::Tolerances;
 
 // What the destination of a copy holds before.
 const UNTOUCHED: u32 = 0xdead_beef;
@@ -89,17 +90,18 @@ pub(crate) fn extend(
     Ok(put_buffer(rt, 'J', result, out)?)
 }
 
-// A buffer converted to another rate.
+// A buffer converted to another rate, with these tolerances.
 pub(crate) fn convert(
     rt: &impl Print,
     shape: Shape,
     rate: f32,
+    tolerances: Tolerances,
     words: &[u32],
     out: &mut [u32; ROOM],
 ) -> Result<(), Failure> {
-    let result = reshape::converted_shape(shape, words.len(), rate)?;
+    let result = reshape::converted_shape_with(shape, words.len(), rate, tolerances)?;
     let out = lent(result, out)?;
-    reshape::convert(shape, words, rate, out)?;
+    reshape::convert_with(shape, words, rate, tolerances, out)?;
     Ok(put_buffer(rt, 'Q', result, out)?)
 }
 

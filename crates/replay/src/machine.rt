@@ -4,14 +4,15 @@ ghost use Rattle.std.specs.Prelude.{◌≤◌, length};
 use super::calls::{convert, copy_from, copy_to, extend, split};
 use super::failure::Failure;
 use super::report::{put_block, put_player};
-use buffer::Shape;
-use player::{ControlMessage, Player};
+use buffer::{Refusal, Shape};
+use player::{ControlMessage, Player, PlayerOptions};
 use preview::Coming;
 use protocol::calls::{Call, ROOM};
 use protocol::orders::{OUTPUT_MAX, Order, Request, Speed};
 use protocol::print::{put_line, put_refusal};
 use protocol::waiting::Waiting;
 use std::io;
+use tolerances::Tolerances;
 
 // The memory that is lent: for the clip, for the words of a call, and for an output or a result.
 #[derive(Drop)]
@@ -68,12 +69,16 @@ impl Machine {
             return Ok(put_line(rt, line)?);
         }
         match Order::read(line).ok_or(Failure::Unknown)? {
-            Order::Rate(rate) => self.restart(rate),
+            Order::Fresh(rate, tolerances) => self.restart(rate, tolerances),
             Order::Message(message) => self.tell(message),
             Order::Block(request) => self.play(rt, request, clip, out),
             Order::Preview(request) => self.preview(rt, request, clip, out),
             Order::Show => Ok(put_player(rt, self.loaded()?.player)?),
             Order::Call(call) => self.begin(rt, call, Memory { clip, words, out }),
+            Order::Convert(shape, rate, tolerances) => {
+                let call = Call::Convert(shape, rate, tolerances?);
+                self.begin(rt, call, Memory { clip, words, out })
+            }
         }
     }
 
@@ -81,10 +86,17 @@ impl Machine {
         self.loaded.ok_or(Failure::Unknown)
     }
 
-    // A fresh player, or none.
-    fn restart(&mut self, rate: f32) -> Result<(), Failure> {
+    // A fresh player, or none. Its tolerances are made before its rate is checked.
+    fn restart(
+        &mut self,
+        rate: f32,
+        tolerances: Result<Tolerances, Refusal>,
+    ) -> Result<(), Failure> {
         self.loaded = None;
-        let player = Player::new(rate)?;
+        let options = PlayerOptions {
+            tolerances: tolerances?,
+        };
+        let player = Player::with_options(rate, options)?;
         self.loaded = Some(Loaded { player, clip: 0 });
         Ok(())
     }
@@ -183,7 +195,9 @@ impl Machine {
             Call::CopyTo(copy) => copy_to(rt, copy, words, out),
             Call::Extend(first, second) => extend(rt, first, second, words, out),
             Call::Split(shape, point) => split(rt, shape, point, words, out),
-            Call::Convert(shape, rate) => convert(rt, shape, rate, words, out),
+            Call::Convert(shape, rate, tolerances) => {
+                convert(rt, shape, rate, tolerances, words, out)
+            }
         }
     }
 }
