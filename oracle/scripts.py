@@ -7,6 +7,8 @@ import math
 import random
 import struct
 
+from tolerances import Tuner, relabel_distance
+
 MAX = 1.7976931348623157e308
 TWO_64 = 2.0**64
 RATES = [48000.0] * 6 + [44100.0] * 3 + [96000.0, 8000.0, 3000.0, 768000.0, 22050.0, 24000.0, 16000.0, 192000.0]
@@ -69,11 +71,11 @@ def converted_frames(unit):
         return 0
     _, channels, frames, *rates = unit.split("\n")[0].split(" ")
     channels, frames = int(channels), int(frames)
-    rate, other = (struct.unpack(">f", bytes.fromhex(each))[0] for each in rates)
+    rate, other = (struct.unpack(">f", bytes.fromhex(each))[0] for each in rates[:2])
     if not (1 <= channels <= 32 and 1 <= frames <= 2**24 and 3000 <= rate <= 768000 and 3000 <= other <= 768000):
         return 0
     length = math.ceil(frames * (other / rate))
-    return length if abs(rate - other) > 0.1 and length <= 2**24 else 0
+    return length if abs(rate - other) > relabel_distance(rates[2:]) and length <= 2**24 else 0
 
 
 def previewed(line):
@@ -112,18 +114,20 @@ def make_pools(rng, size):
 class Generator:
     POOL = 80000
 
-    def __init__(self, seed, cents=True, previews=True, conversions=True):
+    def __init__(self, seed, cents=True, previews=True, conversions=True, tolerances=True):
         """Without `cents` the scripts have no `D` lines: the first ones that were recorded are made so. Previews, and conversions
-        beside those of `buffer_call`, are strewn in by copies that draw by themselves: without them the scripts of a seed are the
-        same in all else."""
+        beside those of `buffer_call`, are strewn in by copies that draw by themselves, and tolerances on `R` and `Q` lines are drawn
+        apart too: without them the scripts of a seed are the same in all else."""
         self.rng = random.Random(seed)
         self.cents = cents
         self.previews = previews
         self.conversions = conversions
+        self.tolerances = tolerances
         self.pools = make_pools(self.rng, self.POOL)
         self.meter, self.converter = copy.copy(self), copy.copy(self)
         self.meter.rng = random.Random(f"{seed} previews")
         self.converter.rng = random.Random(f"{seed} conversions")
+        self.tuner = Tuner(random.Random(f"{seed} tolerances"))
 
     # ------------------------------------------------------------ numbers
 
@@ -403,7 +407,9 @@ class Generator:
         units = self.without_previews()
         if self.previews:
             units = self.meter.strewn(units)
-        return self.converter.with_conversions(units) if self.conversions else units
+        if self.conversions:
+            units = self.converter.with_conversions(units)
+        return self.tuner.tuned(units) if self.tolerances else units
 
     def with_conversions(self, units):
         """The script with up to two conversions before or behind its units."""

@@ -11,6 +11,7 @@ mod resampling;
 mod table;
 mod tape;
 mod text;
+mod tolerances;
 
 use crate::render::Alloc;
 use buffers::{convert, copy_from, copy_to, extend, split, Shape};
@@ -21,6 +22,7 @@ use std::io::{Read, Write};
 use std::panic::{catch_unwind, AssertUnwindSafe};
 use table::{check, row_13_block_time, row_14_rates, row_1_shape, row_2_rate, Refusal, FRAMES_MAX};
 use text::{hex64, put_decimal, Words};
+use tolerances::Tolerances;
 
 const OUTPUT: u64 = 4_096;
 const OUTPUT_TEXT_MAX: u64 = 65_536;
@@ -35,14 +37,14 @@ enum Call {
     CopyTo(Shape, u64, u64, u64),
     Extend(Shape, Shape),
     Split(Shape, u64),
-    Convert(Shape, f32),
+    Convert(Shape, f32, Tolerances),
 }
 
 impl Call {
     fn words(self) -> u64 {
         match self {
             Call::Clip(shape) | Call::CopyFrom(shape, ..) => shape.words(),
-            Call::Split(shape, _) | Call::Convert(shape, _) => shape.words(),
+            Call::Split(shape, _) | Call::Convert(shape, ..) => shape.words(),
             Call::CopyTo(shape, _, _, len) => shape.words() + len,
             Call::Extend(first, second) => first.words() + second.words(),
         }
@@ -136,10 +138,11 @@ impl Machine {
     }
 
     fn fresh(&mut self, line: &[u8]) -> Result<(), Refusal> {
-        let rate = fresh(line).ok_or(0)?;
+        let (rate, tolerances) = fresh(line).ok_or(0)?;
         self.player = None;
+        let tolerances = tolerances.made()?;
         row_2_rate(rate)?;
-        self.player = Some(Player::new(rate, &self.alloc));
+        self.player = Some(Player::new(rate, tolerances, &self.alloc));
         Ok(())
     }
 
@@ -164,7 +167,7 @@ impl Machine {
         }
     }
 
-    /// Reads the first line of a call with words; refuses at once what row 1 says of its shapes.
+    /// Reads the first line of a call with words; refuses at once what rows 18 and 1 say of its tolerances and shapes.
     fn begin(&mut self, line: &[u8]) -> Result<(), Refusal> {
         let mut w = Words::of(line);
         let letter = w.word();
@@ -186,11 +189,14 @@ impl Machine {
             b"KT" => Call::CopyTo(first, w.decimal()?, w.decimal()?, w.decimal()?),
             b"J" => Call::Extend(first, shape(&mut w)?),
             b"V" => Call::Split(first, w.decimal()?),
-            _ => Call::Convert(first, w.f32()?),
+            _ => Call::Convert(first, w.f32()?, Tolerances::of(&mut w)?),
         };
         check(w.ended(), 0)?;
         if let Call::CopyFrom(.., len) | Call::CopyTo(.., len) = call {
             check(len <= FRAMES_MAX, 0)?;
+        }
+        if let Call::Convert(.., tolerances) = call {
+            tolerances.made()?;
         }
         row_1_shape(first)?;
         if let Call::Extend(_, second) = call {
@@ -216,7 +222,7 @@ impl Machine {
             Call::CopyTo(shape, channel, offset, _) => copy_to(shape, (channel, offset), words, out),
             Call::Extend(first, second) => extend(first, second, words, out),
             Call::Split(shape, point) => split(shape, point, words, out),
-            Call::Convert(shape, wanted) => convert(shape, wanted, words, out),
+            Call::Convert(shape, wanted, tolerances) => convert(shape, wanted, tolerances, words, out),
         }
     }
 
@@ -302,12 +308,12 @@ fn put_block(out: &mut Vec<u8>, letter: u8, keep: bool, player: &Player) {
     }
 }
 
-/// The rate of a well-formed `R` line.
-fn fresh(line: &[u8]) -> Option<f32> {
+/// The rate and the tolerances of a well-formed `R` line, not yet checked.
+fn fresh(line: &[u8]) -> Option<(f32, Tolerances)> {
     let mut words = Words::of(line);
     let letter = words.word();
-    let rate = words.f32().ok()?;
-    (letter == b"R" && words.ended()).then_some(rate)
+    let made = (words.f32().ok()?, Tolerances::of(&mut words).ok()?);
+    (letter == b"R" && words.ended()).then_some(made)
 }
 
 pub fn main() {

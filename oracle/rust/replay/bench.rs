@@ -2,6 +2,7 @@
 //! tools/bench.c makes the same runs of ours.
 use super::buffers::Shape;
 use super::player::Player;
+use super::tolerances::Tolerances;
 use crate::render::Alloc;
 use std::hint::black_box;
 use std::time::Instant;
@@ -33,7 +34,7 @@ fn shape(channels: usize, frames: usize, rate: f32) -> Shape {
 fn player(alloc: &Alloc, channels: usize, looped: bool, noise: bool) -> Player {
     let frames = if looped { 1_000 } else { 128 * (BLOCKS + 2) };
     let words = words(channels * frames, noise);
-    let mut player = Player::new(RATE, alloc);
+    let mut player = Player::new(RATE, Tolerances::default(), alloc);
     player.clip(shape(channels, frames, RATE), &words).expect("a first clip");
     player.looping(looped);
     player.start(0.0, 0.0, f64::MAX).expect("a first start");
@@ -91,6 +92,7 @@ fn conversions() {
         let buffer = shape(channels, MILLION, 44_100.0).buffer(&words(channels * MILLION, true));
         let convert = best(|| {
             let mut converted = buffer.clone();
+            Tolerances::default().put();
             let began = Instant::now();
             converted.resample(black_box(RATE));
             black_box(&converted);

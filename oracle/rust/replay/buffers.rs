@@ -2,6 +2,7 @@
 use super::print::{bits, put_buffer, put_count, put_runs};
 use super::resampling::resampled;
 use super::table::{check, row_2_rate, Refusal, FRAMES_MAX};
+use super::tolerances::Tolerances;
 use crate::buffer::AudioBuffer;
 
 const UNTOUCHED: u32 = 0xDEAD_BEEF;
@@ -101,17 +102,25 @@ pub fn split(shape: Shape, point: u64, words: &[u32], out: &mut Vec<u8>) -> Resu
     Ok(())
 }
 
-/// The original relabels, and says the result's length and rate; the frames of a real change are document 02's, 2.4.
-pub fn convert(shape: Shape, wanted: f32, words: &[u32], out: &mut Vec<u8>) -> Result<(), Refusal> {
+/// The original says whether it relabels, and the result's length and rate; the frames of a real change are document 02's, 2.4.
+pub fn convert(
+    shape: Shape,
+    wanted: f32,
+    tolerances: Tolerances,
+    words: &[u32],
+    out: &mut Vec<u8>,
+) -> Result<(), Refusal> {
     row_2_rate(shape.rate)?;
     row_2_rate(wanted)?;
-    let changed = (shape.rate - wanted).abs() > 0.1 && shape.frames > 0;
+    let changed = (shape.rate - wanted).abs() > tolerances.relabel && shape.frames > 0;
     let length = (shape.frames as f64 * (wanted as f64 / shape.rate as f64)).ceil();
     check(!changed || length <= FRAMES_MAX as f64, 7)?;
     let source = shape.buffer(words);
     let mut buffer = source.clone();
+    tolerances.put();
     buffer.resample(wanted);
-    if changed {
+    let relabelled = buffer.get_channel_data(0).as_ptr() == source.get_channel_data(0).as_ptr();
+    if !relabelled {
         for c in 0..buffer.number_of_channels() {
             let frames = resampled(source.get_channel_data(c), shape.rate, wanted, buffer.length());
             buffer.get_channel_data_mut(c).copy_from_slice(&frames);

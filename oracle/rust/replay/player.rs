@@ -2,6 +2,7 @@
 //! reaches the original.
 use super::buffers::Shape;
 use super::table::{check, row_2_rate, row_9_loop_point, row_9_time, Refusal};
+use super::tolerances::Tolerances;
 use crate::context::Context;
 use crate::node::{
     has_start, AudioBufferSourceNode, AudioBufferSourceOptions, AudioScheduledSourceNode, State,
@@ -11,6 +12,7 @@ use std::cell::Cell;
 
 pub struct Player {
     rate: f32,
+    pub tolerances: Tolerances,
     context: Context,
     node: AudioBufferSourceNode,
     pub outputs: [AudioRenderQuantum; 1],
@@ -19,12 +21,13 @@ pub struct Player {
 }
 
 impl Player {
-    pub fn new(rate: f32, alloc: &Alloc) -> Self {
+    pub fn new(rate: f32, tolerances: Tolerances, alloc: &Alloc) -> Self {
         let context = Context::default();
         let node = AudioBufferSourceNode::new(&context, AudioBufferSourceOptions::default());
         let outputs = [AudioRenderQuantum::from(alloc.silence())];
         Player {
             rate,
+            tolerances,
             context,
             node,
             outputs,
@@ -33,10 +36,11 @@ impl Player {
         }
     }
 
-    /// A copy for a preview: the renderer, with an output of its own. The node is a new one, and is sent no messages.
+    /// A copy for a preview: the renderer and the tolerances, with an output of its own. The node is a new one, and is sent no
+    /// messages.
     pub fn copied(&self, alloc: &Alloc) -> Self {
         let renderer = self.context.renderer.borrow().as_ref().unwrap().copied();
-        let copy = Player::new(self.rate, alloc);
+        let copy = Player::new(self.rate, self.tolerances, alloc);
         *copy.context.renderer.borrow_mut() = Some(renderer);
         Player {
             shape: self.shape,
@@ -88,7 +92,7 @@ impl Player {
         Ok(())
     }
 
-    /// Keep-alive of the original's `process`.
+    /// Keep-alive of the original's `process`, whose near tests get the player's tolerances.
     pub fn process(&mut self, time: f64, rate: f32, factor: f64) -> bool {
         let scope = AudioWorkletGlobalScope {
             current_time: time,
@@ -99,6 +103,7 @@ impl Player {
             values: &[[0.0], [rate]],
             factor,
         };
+        self.tolerances.put();
         let mut slot = self.context.renderer.borrow_mut();
         let renderer = slot.as_mut().unwrap();
         renderer.process(&[], &mut self.outputs, params, &scope)

@@ -3,13 +3,14 @@
 //! frames a block, in frames.
 use super::buffers::Shape;
 use super::player::Player;
+use super::tolerances::Tolerances;
 use crate::render::Alloc;
 
 const BLOCKS: usize = 131_072;
 
 /// The largest error while the player has not ended; each is one product and difference, rounded once.
 fn largest_error(alloc: &Alloc, rate: f32, words: &[u32]) -> f64 {
-    let mut player = Player::new(rate, alloc);
+    let mut player = Player::new(rate, Tolerances::default(), alloc);
     let shape = Shape {
         channels: 1,
         frames: words.len() as u64,

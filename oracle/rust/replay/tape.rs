@@ -2,6 +2,7 @@
 //! blocks and loop messages (lists.rs) are played on the original and followed by the tape of 2.6.
 use super::lists::{list, Call, List, Random};
 use super::table::row_13_block_time;
+use super::tolerances::Tolerances;
 use super::Machine;
 use crate::render::AudioRenderQuantumChannel as Channel;
 use std::panic::{catch_unwind, AssertUnwindSafe};
@@ -176,7 +177,7 @@ fn refused(machine: &mut Machine, lines: &str, number: u8) -> Result<(), String>
 
 /// Plays a list on both, up to the first call where they differ.
 fn follow(machine: &mut Machine, list: &List, tally: &mut Tally) -> Result<(), String> {
-    machine.player = Some(super::Player::new(list.rate, &machine.alloc));
+    machine.player = Some(super::Player::new(list.rate, Tolerances::default(), &machine.alloc));
     let mut tape = Tape::new(list.frames);
     for (n, call) in list.calls.iter().enumerate() {
         let player = machine.player.as_mut().ok_or("no player")?;

@@ -1,15 +1,35 @@
-//! Stand-in for the crate `almost`, as document 01 ('Rounding') defines it for both sides.
+//! Stand-in for the crate `almost`, as document 01 ('Rounding') defines it for both sides. Its tolerances are those of document 02,
+//! 2.7: they are put before the original is called (replay/tolerances.rs), and every near test reads them. None is built in.
+use std::cell::Cell;
 
-const TOLERANCE: f64 = 1.0 / 67_108_864.0; // 2^-26
-
-/// Equal, or nearer than 2^-26 times the larger magnitude; difference and product rounded to f64.
-#[inline]
-pub fn equal(a: f64, b: f64) -> bool {
-    a == b || (a - b).abs() < TOLERANCE * a.abs().max(b.abs())
+thread_local! {
+    static NEAR: Cell<Option<f64>> = const { Cell::new(None) };
+    static NEAR_ZERO: Cell<Option<f64>> = const { Cell::new(None) };
 }
 
-/// Magnitude below 2^-26.
+pub fn put(near: f64, near_zero: f64) {
+    NEAR.set(Some(near));
+    NEAR_ZERO.set(Some(near_zero));
+}
+
+#[inline]
+pub fn equal(a: f64, b: f64) -> bool {
+    equal_within(NEAR.get().expect("a near tolerance"), a, b)
+}
+
 #[inline]
 pub fn zero(a: f64) -> bool {
-    a.abs() < TOLERANCE
+    zero_within(NEAR_ZERO.get().expect("a near-zero tolerance"), a)
+}
+
+/// Equal, or nearer than the tolerance times the larger magnitude; difference and product rounded to f64.
+#[inline]
+pub fn equal_within(near: f64, a: f64, b: f64) -> bool {
+    a == b || (a - b).abs() < near * a.abs().max(b.abs())
+}
+
+/// Magnitude below the tolerance.
+#[inline]
+pub fn zero_within(near_zero: f64, a: f64) -> bool {
+    a.abs() < near_zero
 }

@@ -1,0 +1,50 @@
+//! Document 02, 2.7: 'the near tolerance, the near-zero tolerance and the relabel distance become a record that a player is made
+//! with and keeps, a conversion is handed, and every near test receives'.
+use super::table::{row_18_tolerance, Refusal};
+use super::text::Words;
+
+#[derive(Clone, Copy)]
+pub struct Tolerances {
+    pub near: f64,
+    pub near_zero: f64,
+    pub relabel: f32,
+}
+
+impl Default for Tolerances {
+    /// 'Defaults are 2^-26, 2^-26 and 0.1 as f32.'
+    fn default() -> Self {
+        Tolerances {
+            near: 1.0 / 67_108_864.0,
+            near_zero: 1.0 / 67_108_864.0,
+            relabel: 0.1,
+        }
+    }
+}
+
+impl Tolerances {
+    /// The three words that end a line, not yet checked; the defaults where none are left.
+    pub fn of(words: &mut Words) -> Result<Self, Refusal> {
+        if words.ended() {
+            return Ok(Tolerances::default());
+        }
+        Ok(Tolerances {
+            near: words.f64()?,
+            near_zero: words.f64()?,
+            relabel: words.f32()?,
+        })
+    }
+
+    /// 'Checks: 18 .. when settings are made.'
+    pub fn made(self) -> Result<Self, Refusal> {
+        row_18_tolerance(self.near)?;
+        row_18_tolerance(self.near_zero)?;
+        row_18_tolerance(self.relabel as f64)?;
+        Ok(self)
+    }
+
+    /// Hands them to the stand-ins, whose tests the original calls.
+    pub fn put(self) {
+        almost::put(self.near, self.near_zero);
+        float_eq::put(self.relabel);
+    }
+}
