@@ -58,6 +58,7 @@ pub fn last_wrap(turns: bool, frames: usize, first: usize) -> Option<usize>
 
 // The position after the block.
 #[tactic(auto, unfolding(crate::specs::Aligned::aligned_position))]
+#[inline(always)]
 pub fn aligned_position(position: f64, rate: f32, duration: f64, wrap: Option<usize>) -> f64
     ensures { result ≡ aligned_position 128 position rate duration wrap }
 {

@@ -3,29 +3,16 @@
 #![tactic(auto)]
 
 ghost use Rattle.std.specs.Prelude.{◌≡◌, length};
-ghost use Rattle.cents.specs.Cents.{rendered_cents, output_cents, factored_at};
+ghost use Rattle.cents.specs.Cents.{rendered_cents, output_cents};
 
 use buffer::Refusal;
 use player::{BlockReport, Player};
 
-// What a block in cents asks of the factor. The table of cents is looked up only for a block that
-// plays.
-#[tactic(auto, using(crate::proofs::Silent::at_refused, crate::proofs::Silent::at_silent, crate::proofs::Silent::at_playing))]
-pub fn factor_at(p: Player, time: f64, cents: i32) -> Result<f64, Refusal>
-    ensures { result ≡ factored_at 128 p time cents }
-{
-    if p.is_silent(time) {
-        if detune::is_bad_cents(cents) {
-            return Err(Refusal::Cents);
-        }
-        return Ok(1.0);
-    }
-    detune::factor(cents)
-}
-
 // Renders a block into the lent output, detuned by whole cents: document 02's call, beside the block call
-// and with its parameters, one by one as there.
-#[tactic(auto, using(crate::proofs::Silent::at_answer, crate::proofs::Silent::at_output))]
+// and with its parameters, one by one as there. No factor of accepted cents is refused; the table is
+// looked up where the block plays. The 1 is never played: refused cents are turned down before.
+#[tactic(auto, using(crate::proofs::Checked::same))]
+#[inline(always)]
 pub fn process_cents(
     p: Player,
     out: &mut [u32],
@@ -37,11 +24,8 @@ pub fn process_cents(
     ensures { (result ≡ rendered_cents 128 p (length out.old) (length samples.now) time rate cents)
         × (out.new ≡ output_cents 128 p out.old samples.now time rate cents) }
 {
-    match factor_at(p, time, cents) {
-        Ok(factor) => p.process(out, samples, time, rate, factor),
-        Err(refusal) => {
-            p.check_block(out.len(), samples.len(), time, true, rate, 1.0)?;
-            Err(refusal)
-        }
-    }
+    let bad_cents = detune::is_bad_cents(cents);
+    p.process_by(out, samples, time, rate, bad_cents, None, || {
+        detune::factor(cents).unwrap_or(1.0)
+    })
 }

@@ -1,3 +1,2 @@
 -- What the proofs of `lent` share.
 mod Mute
-mod NoCents

@@ -1,17 +1,15 @@
 -- What a call on a lent player answers, and the player that it leaves, by what the call by value answers; and the answer of the factor. Definitions only.
 -- A refused call leaves the player as it was (document 01, 'Where a call is turned down': a refusal returns only its number).
-use Rattle.std.specs.Prelude.{false, cond, eqb, Float, Result, Ok, Err}
+use Rattle.std.specs.Prelude.{false, Float, Result, Ok, Err}
 use Rattle.std.specs.Float.{binary64}
 use Rattle.std.specs.Float.Ieee.{of_bits}
 use Rattle.buffer.specs.Refusals.{number}
-use Rattle.buffer.specs.declared.refusals.Refusal.TheVariants as refused
 use Rattle.player.specs.declared.BlockReport.{BlockReport}
 use Rattle.buffer.specs.declared.refusals.Refusal.{Refusal}
 use Rattle.player.specs.declared.Player.{Player}
 use Rattle.seconds.specs.Seconds.{in_clip, none}
 use Rattle.lent.specs.declared.Told.{Told}
 use Rattle.lent.specs.declared.Blocked.{Blocked}
-use Rattle.lent.specs.declared.BlockAnswer.{BlockAnswer}
 use Rattle.lent.specs.declared.Factored.{Factored}
 
 -- a message or a buffer call: the player, and the refusal's number, 0 for none
@@ -34,16 +32,6 @@ after_block p (Err refused) = record {
 abbrev pub factor_for : Result Float Refusal → Factored
 factor_for (Ok factor) = record { factor = factor; refusal = 0 }
 factor_for (Err refused) = record { factor = of_bits binary64 0; refusal = number refused }
-
--- the answer of a block played with that factor: its refusal, 14, is the cents', 16; one that comes before keeps its number (document 02, 2.1)
-abbrev pub in_cents : BlockAnswer → BlockAnswer
-in_cents a = record {
-  position = a.position;
-  channels = a.channels;
-  refusal = cond (eqb a.refusal (number refused.Speed)) (number refused.Cents) a.refusal;
-  keep_alive = a.keep_alive;
-  ended = a.ended;
-}
 
 -- p with the start time, the offset, what is rendered and the last accepted block's time of q
 abbrev pub moved_to : Player → Player → Player

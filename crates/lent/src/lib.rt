@@ -7,13 +7,13 @@ ghost use Rattle.std.specs.Prelude.{◌≡◌, ℕ, List, length};
 ghost use Rattle.buffer.specs.Answers.{passed};
 ghost use Rattle.player.specs.Messages.{handled, buffered};
 ghost use Rattle.player.specs.Block.{rendered, output};
-ghost use Rattle.cents.specs.Cents.{rendered_cents, output_cents, factored_at};
-ghost use Rattle.lent.specs.Lent.{after_call, after_block, in_cents, moved_to};
+ghost use Rattle.cents.specs.Cents.{rendered_cents, output_cents};
+ghost use Rattle.lent.specs.Lent.{after_call, after_block, moved_to};
 ghost use Rattle.lent.specs.declared.Blocked.{Blocked};
 ghost use Rattle.lent.specs.Nobody.{no_shape, nobody, NobodyPlays};
 
 use buffer::{Refusal, Shape};
-use cents::{factor_at, process_cents};
+use cents::process_cents;
 use player::{BlockReport, ControlMessage, Player, RenderState};
 use seconds::BufferSeconds;
 
@@ -112,6 +112,7 @@ fn after_block(p: Player, rendered: Result<BlockReport, Refusal>) -> Blocked
 
 // Two calls, one with a factor and one in cents, here and below: document 02 names both, and one over
 // either speed would ask again which it is.
+#[inline(always)]
 pub fn block_by_value(
     p: Player,
     out: &mut [u32],
@@ -126,6 +127,7 @@ pub fn block_by_value(
     after_block(p, p.process(out, samples, time, rate, factor))
 }
 
+#[inline(always)]
 pub fn cents_by_value(
     p: Player,
     out: &mut [u32],
@@ -196,32 +198,6 @@ impl From<Result<f64, Refusal>> for Factored {
             },
         }
     }
-}
-
-// The factor that a block in cents asks for. No cents, at which a block may be quick, are told
-// here, where they cost no call.
-#[tactic(auto, using(crate::proofs::NoCents::unaltered))]
-pub fn factor_of(p: Player, time: f64, cents: i32) -> Result<f64, Refusal>
-    ensures { result ≡ factored_at 128 p time cents }
-{
-    if cents == 0 {
-        return Ok(1.0);
-    }
-    factor_at(p, time, cents)
-}
-
-// The answer of a block that was played with the factor of refused cents: its number, since C's
-// record holds that.
-pub fn in_cents(answer: BlockAnswer) -> BlockAnswer
-    ensures { result ≡ in_cents answer }
-{
-    if answer.refusal == Refusal::Speed.number() {
-        return BlockAnswer {
-            refusal: Refusal::Cents.number(),
-            ..answer
-        };
-    }
-    answer
 }
 
 // A control message on a lent player.

@@ -1,3 +1,2 @@
 -- What the proofs of `netthimble` share.
-mod InCents
 mod Moved

@@ -2,6 +2,7 @@
 use mathlib.Core.Path.{◌≡◌, refl}
 use mathlib.Core.Bool.{Bool, true, false, not, ◌&&◌, cond}
 use Prim.Native.Nat.{ℕ}
+use lib.IntN.{ℤ}
 use lib.Ieee.{Float, le, ne}
 use Rattle.std.specs.Prelude.{Result, Ok, Err}
 use Rattle.std.proofs.lemmas.Bool.{cond_both}
@@ -10,6 +11,8 @@ use Rattle.buffer.specs.Answers.{after_checks}
 use Rattle.player.specs.Block.{Plan, silent, idle, computed_rate, is_aligned, aligned_plan, sub_sample_plan, plan, checked, report_of, rendered}
 use Rattle.player.specs.declared.Player.{Player}
 use Rattle.seconds.specs.Seconds.{never, block_end}
+use Rattle.detune.specs.Detune.{factor_of}
+use Rattle.cents.specs.Cents.{checked_cents, rendered_cents}
 use Rattle.lent.specs.Lent.{after_block, moved_to}
 
 -- the player of a plan
@@ -46,3 +49,10 @@ pub leaves : (p : Player) (n outLength samplesLength : ℕ) (time rate factor : 
 unfolding rendered
 leaves p n outLength samplesLength time rate factor =
     answers p (checked n p outLength samplesLength time rate factor) (plan n p time rate factor) (keeps n p time rate factor)
+
+pub leaves_cents : (p : Player) (n outLength samplesLength : ℕ) (time rate : Float) (cents : ℤ)
+    → moved_to p (after_block p (rendered_cents n p outLength samplesLength time rate cents)).player
+    ≡ (after_block p (rendered_cents n p outLength samplesLength time rate cents)).player
+unfolding rendered_cents
+leaves_cents p n outLength samplesLength time rate cents =
+    answers p (checked_cents n p outLength samplesLength time rate cents) (plan n p time rate (factor_of cents)) (keeps n p time rate (factor_of cents))

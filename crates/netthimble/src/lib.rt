@@ -6,6 +6,7 @@
 mod buffers;
 mod clips;
 mod playing;
+mod previewing;
 mod settings;
 
 use buffer::{Refusal, Shape};

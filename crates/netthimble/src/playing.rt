@@ -10,7 +10,7 @@ ghost use Rattle.lent.specs.Nobody.{nobody};
 
 use lent::{
     BlockAnswer, Factored, Told, after_call, block_by_value, block_on_lent, buffer_by_value,
-    factor_of, in_cents, message_by_value, nobody,
+    cents_by_value, message_by_value, nobody,
 };
 use player::{ControlMessage, Player, PlayerOptions};
 
@@ -119,8 +119,8 @@ pub extern "C" fn netthimble_factor(cents: i32) -> Factored
     detune::factor(cents).into()
 }
 
-// Renders a block into the lent output, detuned by whole cents: the block call itself, with the
-// factor that it asks for. So the player's code stands in the library once.
+// Renders a block into the lent output, detuned by whole cents.
+#[tactic(auto, using(crate::proofs::Moved::leaves_cents))]
 #[unsafe(no_mangle)]
 pub extern "C" fn netthimble_player_process_cents(
     p: &mut Player,
@@ -136,10 +136,9 @@ pub extern "C" fn netthimble_player_process_cents(
         ≡ (after_block p.old (rendered_cents 128 p.old (length out.old) (length samples.now) time rate cents)).player)
         × (out.new ≡ output_cents 128 p.old out.old samples.now time rate cents) }
 {
-    match factor_of(*p, time, cents) {
-        Ok(factor) => netthimble_player_process(p, out, samples, time, rate, factor),
-        Err(_) => in_cents(netthimble_player_process(p, out, samples, time, rate, 0.0)),
-    }
+    block_on_lent(p, out, |p, out| {
+        cents_by_value(p, out, samples, time, rate, cents)
+    })
 }
 
 // The bytes of a player's record.

@@ -153,10 +153,6 @@ plan n p time rate factor =
     (cond (is_aligned n p time computed) (aligned_plan n p time computed)
     (sub_sample_plan n p time rate computed)))))
 
--- a block at this time is silent: the cases of `plan` that look at neither rate nor factor
-unfoldable pub is_silent : ℕ → Player → Float → Bool
-is_silent n p time = p.render_state.ended || not p.has_buffer || le (block_end n time p.sample_rate) p.start_time.0
-
 -- ---- refusals, by the output's and the samples' lengths
 
 -- 2 ^ 30 seconds

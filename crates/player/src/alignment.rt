@@ -68,6 +68,7 @@ impl Player {
 
     // Whether the block is aligned.
     #[tactic(auto, unfolding(crate::specs::Block::is_aligned))]
+    #[inline(always)]
     pub(crate) fn is_aligned(self, time: f64, computed: f64) -> bool
         ensures { result ≡ is_aligned 128 self time computed }
     {
@@ -86,6 +87,7 @@ impl Player {
 
     // Whether a block that leaves the player at this position and elapsed time ends it.
     #[tactic(auto, unfolding(crate::specs::Block::has_ended))]
+    #[inline(always)]
     pub(crate) fn has_ended(self, time: f64, computed: f64, position: f64, elapsed: f64) -> bool
         ensures { result ≡ has_ended 128 self time computed position elapsed }
     {
@@ -96,6 +98,7 @@ impl Player {
 
     // Whether an aligned block starts the clip again.
     #[tactic(auto, unfolding(crate::specs::Block::turns_over))]
+    #[inline(always)]
     pub(crate) fn turns_over(self) -> bool
         ensures { result ≡ turns_over 128 self }
     {
@@ -108,6 +111,7 @@ impl Player {
     }
 
     // The frame with which an aligned block begins.
+    #[inline(always)]
     pub(crate) fn first_of(self) -> usize
         ensures { result ≡ first_of self }
     {

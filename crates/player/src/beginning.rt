@@ -42,6 +42,7 @@ impl Player {
 
     // What stays the same over the block's samples.
     #[tactic(auto, unfolding(crate::specs::Block::settings))]
+    #[inline(always)]
     pub(crate) fn settings(self, time: f64, rate: f32, computed: f64) -> Settings
         ensures { result ≡ settings self time rate computed }
     {

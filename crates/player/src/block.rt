@@ -1,27 +1,53 @@
-// The block call.
-ghost use Rattle.std.specs.Prelude.{◌≡◌, true, false, not, ◌&&◌, ◌||◌, length};
+// The block call. An aligned or a silent block is short, so its code is inlined in each call that plays a
+// block; a sub-sample block's channels are written by code that these calls share, so that it takes the
+// same time in each of them (docs/DECISIONS.md, 'What the calls that play a block share').
+ghost use Rattle.std.specs.Prelude.{◌≡◌, true, false, not, ◌&&◌, ◌||◌, length, Err};
 ghost use Rattle.std.specs.Float.Ieee.{eq, ne};
+ghost use Rattle.std.specs.Option.{unwrap_or};
 ghost use Rattle.buffer.specs.Limits.{Valid};
-ghost use Rattle.seconds.specs.Seconds.{never};
+ghost use Rattle.seconds.specs.Seconds.{never, one};
 ghost use Rattle.lists.specs.Table.{table};
 ghost use Rattle.lists.specs.Parts.{put};
+ghost use Rattle.sub_sample.specs.SubSample.{head_at, info_of_sample};
+ghost use Rattle.interpolated.specs.Interpolated.{sample_of};
 ghost use Rattle.player.specs.Record.{render_of, moved};
 ghost use Rattle.player.specs.Reports.{report_from};
-ghost use Rattle.player.specs.Block.{silent, idle, computed_rate, has_ended, aligned_plan, sub_sample_plan, plan, is_silent};
-ghost use Rattle.player.specs.Block.{bad_samples, report_of, rendered, written, output};
+ghost use Rattle.player.specs.Block.{silent, idle, computed_rate, has_ended, aligned_plan, sub_sample_plan, plan};
+ghost use Rattle.player.specs.Block.{bad_samples, checks, report_of, rendered, written, output};
+ghost use Rattle.buffer.specs.Answers.{answer_of, stored, after_checks};
 
 use super::output::write_channels;
 use super::{BlockReport, Player, RenderState};
 use aligned::{aligned_position, last_wrap};
 use buffer::{Channels, Refusal};
 use seconds::{BufferSeconds, ContextSeconds, NEVER, block_end, block_seconds};
-use sub_sample::{Playhead, fill_infos};
+use sub_sample::{Playhead, Settings, fill_infos};
 
 // The rate with its factor.
 fn computed_rate(rate: f32, factor: f64) -> f64
     ensures { result ≡ computed_rate rate factor }
 {
     f64::from(rate) * factor
+}
+
+// The channels of a sub-sample block, each in its own part of the output, and the playhead after it.
+#[inline(never)]
+#[tactic(auto, using(crate::proofs::Sampled::by_infos, lists::specs::Table::filled_end))]
+fn write_sub_sample(
+    out: &mut [u32; 4096],
+    channels: Channels,
+    s: Settings,
+    head: Playhead,
+) -> Playhead
+    ensures { let it = channels.entry in
+        (result ≡ head_at s head 128)
+        × (out.new ≡ written 128 (λ frames i. sample_of s frames (info_of_sample s i (head_at s head i))) it.frames it.samples.now out.old it.count) }
+{
+    let filled = fill_infos(s, head);
+    write_channels(out, channels, |part, channel| {
+        interpolated::write_channel(part, channel, s, &filled.infos)
+    });
+    filled.head
 }
 
 impl Player {
@@ -66,6 +92,7 @@ impl Player {
 
     // Silence is one channel of zeros.
     #[tactic(auto, using(crate::proofs::Written::silence))]
+    #[inline(always)]
     fn silent_block(
         self,
         out: &mut [u32; 4096],
@@ -89,6 +116,7 @@ impl Player {
 
     // The player after an aligned block.
     #[tactic(auto, unfolding(crate::specs::Block::aligned_plan))]
+    #[inline(always)]
     fn aligned_player(self, time: f64, computed: f64) -> Player
         ensures { result ≡ (aligned_plan 128 self time computed).player }
     {
@@ -109,6 +137,7 @@ impl Player {
     }
 
     // The player after a sub-sample block that leaves this playhead.
+    #[inline(always)]
     fn sub_sample_player(self, time: f64, computed: f64, head: Playhead) -> Player
         ensures { result ≡ moved self head.start_time.0 head.offset.0
             (render_of head.buffer_time.0 head.started head.entered_loop head.buffer_time_elapsed.0 false
@@ -143,6 +172,7 @@ impl Player {
     // function took 2 to 3 % longer for sub-sample blocks of 8 and 32 channels.
     // That the channels are the player's is asked at these two alone, so it is no type of its own.
     #[tactic(auto, unfolding(crate::specs::Block::aligned_plan))]
+    #[inline(always)]
     fn aligned_block(
         self,
         out: &mut [u32; 4096],
@@ -166,7 +196,8 @@ impl Player {
     }
 
     // A sub-sample block, of the channels of the player's buffer.
-    #[tactic(auto, using(crate::proofs::Sampled::by_infos, lists::specs::Table::filled_end), unfolding(crate::specs::Block::sub_sample_plan))]
+    #[inline(always)]
+    #[tactic(auto, unfolding(crate::specs::Block::sub_sample_plan))]
     fn sub_sample_block(
         self,
         out: &mut [u32; 4096],
@@ -180,13 +211,10 @@ impl Player {
             (result ≡ report_of q)
             × (out.new ≡ written 128 q.sample self.shape.frames channels.entry.samples.now out.old q.channels) }
     {
-        let s = self.settings(time, rate, computed);
-        let filled = fill_infos(s, self.first_head(time));
-        write_channels(out, channels, |part, channel| {
-            interpolated::write_channel(part, channel, s, &filled.infos)
-        });
-        self.sub_sample_player(time, computed, filled.head)
-            .report(true, channels.count)
+        let head = self.first_head(time);
+        let head = write_sub_sample(out, channels, self.settings(time, rate, computed), head);
+        self.sub_sample_player(time, computed, head)
+            .report(true, self.shape.channels)
     }
 
     // Ended before, or with this block since it has no buffer to start.
@@ -196,28 +224,21 @@ impl Player {
         self.render_state.ended || !self.has_buffer && self.start_time.0 != NEVER
     }
 
-    // A silent block, which looks at neither rate nor factor.
-    #[tactic(auto, unfolding(crate::specs::Block::is_silent))]
-    pub fn is_silent(self, time: f64) -> bool
-        ensures { result ≡ is_silent 128 self time }
-    {
-        self.render_state.ended
-            || !self.has_buffer
-            || self.start_time.0 >= block_end(time, self.sample_rate)
-    }
-
-    // A block that no row of the table refuses, in the Rust's order of cases.
+    // A block that no row of the table refuses, in the Rust's order of cases. The factor is asked for
+    // where the block plays.
     #[tactic(auto, using(buffer::specs::Limits::valid), unfolding(crate::specs::Block::bad_samples, crate::specs::Block::plan, crate::specs::Block::written))]
-    fn render(
+    #[inline(always)]
+    fn render<F: FnOnce() -> f64>(
         self,
         out: &mut [u32; 4096],
         samples: &[u32],
         time: f64,
         rate: f32,
-        factor: f64,
+        factor: F,
     ) -> BlockReport
-        requires { bad_samples self (length samples.now) ≡ false }
-        ensures { let q = plan 128 self time rate factor in
+        requires { (bad_samples self (length samples.now) ≡ false) × F.pre factor }
+        ensures { (played : _) → ((given : _) → F.post factor given → given ≡ played)
+            → let q = plan 128 self time rate played in
             (result ≡ report_of q)
             × (out.new ≡ written 128 q.sample self.shape.frames samples.now out.old q.channels) }
     {
@@ -235,16 +256,46 @@ impl Player {
             return self.silent_block(out, time, false, false);
         }
         let channels = self.channels(samples);
-        let computed = computed_rate(rate, factor);
+        let computed = computed_rate(rate, factor());
         if self.is_aligned(time, computed) {
             return self.aligned_block(out, channels, time, computed);
         }
         self.sub_sample_block(out, channels, time, rate, computed)
     }
 
+    // The block call with a factor that is asked for where the block plays (a matter of its time alone: the
+    // contract doesn't say it). What its checks look at is handed in: whether cents are refused, and the
+    // factor. `None` is for who knows that no block refuses it.
+    #[tactic(auto)]
+    #[inline(always)]
+    pub fn process_by<F: FnOnce() -> f64>(
+        self,
+        out: &mut [u32],
+        samples: &[u32],
+        time: f64,
+        rate: f32,
+        bad_cents: bool,
+        checked: Option<f64>,
+        factor: F,
+    ) -> Result<BlockReport, Refusal>
+        requires { F.pre factor }
+        ensures refused { (first : _) → checks 128 self (length out.old) (length samples.now) time bad_cents rate (unwrap_or checked one) ≡ Err first
+            → (result ≡ Err first) × (out.new ≡ out.old) }
+        ensures law { (played : _) → ((given : _) → F.post factor given → given ≡ played)
+            → let q = plan 128 self time rate played in
+            let passed = checks 128 self (length out.old) (length samples.now) time bad_cents rate (unwrap_or checked one) in
+            (result ≡ after_checks passed (report_of q))
+            × (out.new ≡ stored (answer_of passed) (written 128 q.sample self.shape.frames samples.now out.old q.channels) out.old) }
+    {
+        let out = out.as_mut_array().ok_or(Refusal::Length)?;
+        self.check_block(out.len(), samples.len(), time, bad_cents, rate, checked)?;
+        Ok(self.render(out, samples, time, rate, factor))
+    }
+
     // Renders a block into the lent output. The output, the samples, the time, the rate and the factor go
     // one by one, here and below, as document 01 names them.
     #[tactic(auto, unfolding(crate::specs::Block::checked, crate::specs::Block::rendered, crate::specs::Block::output))]
+    #[inline(always)]
     pub fn process(
         self,
         out: &mut [u32],
@@ -256,8 +307,6 @@ impl Player {
         ensures { (result ≡ rendered 128 self (length out.old) (length samples.now) time rate factor)
             × (out.new ≡ output 128 self out.old samples.now time rate factor) }
     {
-        let out = out.as_mut_array().ok_or(Refusal::Length)?;
-        self.check_block(out.len(), samples.len(), time, false, rate, factor)?;
-        Ok(self.render(out, samples, time, rate, factor))
+        self.process_by(out, samples, time, rate, false, Some(factor), || factor)
     }
 }

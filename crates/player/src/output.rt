@@ -10,6 +10,7 @@ use buffer::Channels;
 // of its words. Not reshape's `write_parts`, which fills an output to its end: here the words past the
 // last channel stay.
 #[tactic(auto, using(crate::proofs::Written::turn, buffer::specs::Channels::length_channel), unfolding(crate::specs::Block::written))]
+#[inline(always)]
 pub(crate) fn write_channels<F: Fn(&mut [u32], &[u32])>(
     out: &mut [u32; 4096],
     channels: Channels,

@@ -1,5 +1,7 @@
 // The rows of the table for a block.
 ghost use Rattle.std.specs.Prelude.{◌≡◌};
+ghost use Rattle.std.specs.Option.{unwrap_or};
+ghost use Rattle.seconds.specs.Seconds.{one};
 ghost use Rattle.player.specs.Block.{bad_block_time, bad_rate, bad_samples, checks};
 
 use super::Player;
@@ -14,12 +16,18 @@ const SLOWEST: f64 = 5.421010862427522170037264004349708557128906250e-20;
 
 const FASTEST: f64 = 18446744073709551616.0;
 
-// A rate or a factor that no block may have.
-#[tactic(auto, using(crate::proofs::Limits::slowest_bits, crate::proofs::Limits::fastest_bits), unfolding(crate::specs::Block::bad_rate))]
-fn is_bad_rate(rate: f32, factor: f64) -> bool
-    ensures { result ≡ bad_rate rate factor }
+// A rate or a factor that no block may have. Where no factor is given, none is refused, as 1 is not.
+#[tactic(auto, using(crate::proofs::Limits::slowest_bits, crate::proofs::Limits::fastest_bits, crate::proofs::Limits::one_passes), unfolding(crate::specs::Block::bad_rate))]
+fn is_bad_rate(rate: f32, factor: Option<f64>) -> bool
+    ensures { result ≡ bad_rate rate (unwrap_or factor one) }
 {
-    !is_finite(f64::from(rate)) || !(SLOWEST <= factor && factor <= FASTEST)
+    if !is_finite(f64::from(rate)) {
+        return true;
+    }
+    match factor {
+        Some(factor) => !(SLOWEST <= factor && factor <= FASTEST),
+        None => false,
+    }
 }
 
 impl Player {
@@ -47,17 +55,18 @@ impl Player {
     }
 
     // The checks of a block. Cents are checked by who takes them: `bad_cents` is what was found, no switch,
-    // since its row stands between those of the time and of the speed.
-    pub fn check_block(
+    // since its row stands between those of the time and of the speed. No factor: one that no block refuses.
+    #[inline(always)]
+    pub(crate) fn check_block(
         self,
         out_len: usize,
         samples_len: usize,
         time: f64,
         bad_cents: bool,
         rate: f32,
-        factor: f64,
+        factor: Option<f64>,
     ) -> Result<(), Refusal>
-        ensures { result ≡ checks 128 self out_len samples_len time bad_cents rate factor }
+        ensures { result ≡ checks 128 self out_len samples_len time bad_cents rate (unwrap_or factor one) }
     {
         if out_len != 4096 {
             return Err(Refusal::Length);

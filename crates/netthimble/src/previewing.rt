@@ -1,14 +1,31 @@
-// The library for C (include/netthimble.h): the preview of the coming block in cents. It is
-// compiled by itself, so that the player's code stands within this call as it does within
-// `netthimble_player_process_cents`.
-#![tactic(auto)]
-
+// The coming block, on a player that is lent and stays as it is.
 ghost use Rattle.std.specs.Prelude.{◌≡◌, length};
+ghost use Rattle.player.specs.Block.{rendered, output};
 ghost use Rattle.cents.specs.Cents.{rendered_cents, output_cents};
 ghost use Rattle.lent.specs.Lent.{after_block};
 
-use lent::{BlockAnswer, block_on_copy, cents_by_value};
+use lent::{BlockAnswer, block_by_value, block_on_copy, cents_by_value};
 use player::Player;
+
+// Renders the coming block into a second output: what `netthimble_player_process` would answer and
+// write on a copy. The player stays as it is.
+#[unsafe(no_mangle)]
+pub extern "C" fn netthimble_player_preview(
+    p: &Player,
+    out: &mut [u32],
+    samples: &[u32],
+    time: f64,
+    rate: f32,
+    factor: f64,
+) -> BlockAnswer
+    ensures { (result ≡ (after_block p.now (rendered 128 p.now (length out.old) (length samples.now) time rate factor)).answer)
+        × (p.exit.now ≡ p.entry.now)
+        × (out.new ≡ output 128 p.now out.old samples.now time rate factor) }
+{
+    block_on_copy(p, out, |p, out| {
+        block_by_value(p, out, samples, time, rate, factor)
+    })
+}
 
 // Renders the coming block into a second output, detuned by whole cents: what
 // `netthimble_player_process_cents` would answer and write on a copy. The player stays as it is.
