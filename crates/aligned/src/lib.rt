@@ -26,8 +26,10 @@ pub fn ends_within(position: f64, rate: f32, duration: f64) -> bool
 }
 
 // The last sample at which a block that turns over starts the clip again. `next` is the frame that comes next,
-// and no index: it starts over where the sample's goes on.
+// and no index: it starts over where the sample's goes on. A call, since it is rare: within each call that plays
+// a block it made aligned blocks of one channel 2 % longer.
 #[tactic(auto, using(crate::proofs::Turning::next_more, crate::proofs::Turning::wrap_more), unfolding(crate::specs::Aligned::next_frame, crate::specs::Aligned::last_wrap, crate::specs::Aligned::played))]
+#[inline(never)]
 fn last_wrap_of_loop(frames: usize, first: usize) -> Option<usize>
     ensures { result ≡ last_wrap true frames first 128 }
 {

@@ -66,8 +66,9 @@ fn joined(v: u64, x: u64, taken: bool) -> u64
 // The f32 pattern of the sum of m and c, of each of which only the last 64 digits are given. They
 // tell how far the sum is from the tie beside it, for it is near the pattern `size`: `above` is that
 // distance and half of an f64's last digit. The sum as an f64 has its guard bit set where it is not
-// below the tie, and its sticky bit where it is not on it.
+// below the tie, and its sticky bit where it is not on it. A call, as `by_fma` below.
 #[tactic(auto, using(rounding::proofs::Raised::raise_le, crate::proofs::Side::sided))]
+#[inline(never)]
 fn beside(size: u64, j: u64, p: bool, q: bool, m: u64, c: u64) -> u64
     requires { Beside size × (1 ≤ j) × (j ≤ 50) }
     ensures { Sided size j p q m c result }
@@ -104,11 +105,11 @@ fn full_digits(b: u64) -> u64
 }
 
 // Whether b, whose field is e, has at most 24 digits and is not too large, and the places i and j
-// are near.
+// are near. With b's digits asked for last, `fma_narrow` took 3 % longer.
 fn in_reach(b: u64, e: u64, i: u64, j: u64) -> bool
     ensures { IsTrue result → Reach b e i j }
 {
-    (1..=1892).contains(&e) && i < 64 && (1..=50).contains(&j) && b % 0x2000_0000 == 0
+    b % 0x2000_0000 == 0 && (1..=1892).contains(&e) && i < 64 && (1..=50).contains(&j)
 }
 
 // The f32 pattern of a * b + c without its sign, from the patterns of the three and that of the sum
@@ -166,9 +167,18 @@ fn by_operators(a: f64, b: f64, c: f64) -> Option<u32>
     Some(signed(bits, pattern))
 }
 
+// The f32 pattern of a * b + c, rounded once by `fma`. This and `beside` are calls, since both are rare: with
+// their code in it `fma_narrow` took 7 to 15 % longer, called alone through C, and a sub-sample block 1 to 5 %.
+#[inline(never)]
+fn by_fma(a: f64, b: f64, c: f64) -> u32
+    ensures { result ≡ narrow (fma binary64 a b c) }
+{
+    narrow(fma(a, b, c))
+}
+
 // The f32 pattern of a * b + c rounded once.
 pub fn fma_narrow(a: f64, b: f64, c: f64) -> u32
     ensures { result ≡ narrow (fma binary64 a b c) }
 {
-    by_operators(a, b, c).unwrap_or_else(|| narrow(fma(a, b, c)))
+    by_operators(a, b, c).unwrap_or_else(|| by_fma(a, b, c))
 }

@@ -1,6 +1,6 @@
-// The block call. An aligned or a silent block is short, so its code is inlined in each call that plays a
-// block; a sub-sample block's channels are written by code that these calls share, so that it takes the
-// same time in each of them (docs/DECISIONS.md, 'What the calls that play a block share').
+// The block call. A silent block is short, and so is what stands around the channels of another: that code is
+// inlined in each call that plays a block. Channels are written by code that these calls share, so that they
+// take the same time in each of them (docs/DECISIONS.md, 'What the calls that play a block share').
 ghost use Rattle.std.specs.Prelude.{◌≡◌, true, false, not, ◌&&◌, ◌||◌, length, Err};
 ghost use Rattle.std.specs.Float.Ieee.{eq, ne};
 ghost use Rattle.std.specs.Option.{unwrap_or};
@@ -8,6 +8,7 @@ ghost use Rattle.buffer.specs.Limits.{Valid};
 ghost use Rattle.seconds.specs.Seconds.{never, one};
 ghost use Rattle.lists.specs.Table.{table};
 ghost use Rattle.lists.specs.Parts.{put};
+ghost use Rattle.aligned.specs.Aligned.{aligned_sample};
 ghost use Rattle.sub_sample.specs.SubSample.{head_at, info_of_sample};
 ghost use Rattle.interpolated.specs.Interpolated.{sample_of};
 ghost use Rattle.player.specs.Record.{render_of, moved};
@@ -28,6 +29,17 @@ fn computed_rate(rate: f32, factor: f64) -> f64
     ensures { result ≡ computed_rate rate factor }
 {
     f64::from(rate) * factor
+}
+
+// The channels of an aligned block, each in its own part of the output.
+#[inline(never)]
+fn write_aligned(out: &mut [u32; 4096], channels: Channels, turns: bool, first: usize)
+    ensures { let it = channels.entry in
+        out.new ≡ written 128 (aligned_sample turns it.frames first) it.frames it.samples.now out.old it.count }
+{
+    write_channels(out, channels, |part, channel| {
+        aligned::write_channel(part, channel, turns, first)
+    });
 }
 
 // The channels of a sub-sample block, each in its own part of the output, and the playhead after it.
@@ -185,12 +197,7 @@ impl Player {
             (result ≡ report_of q)
             × (out.new ≡ written 128 q.sample self.shape.frames channels.entry.samples.now out.old q.channels) }
     {
-        let turns = self.turns_over();
-        let first = self.first_of();
-        // Without `move` an aligned block of one channel took up to 2 ns longer.
-        write_channels(out, channels, move |part, channel| {
-            aligned::write_channel(part, channel, turns, first)
-        });
+        write_aligned(out, channels, self.turns_over(), self.first_of());
         self.aligned_player(time, computed)
             .report(true, channels.count)
     }
