@@ -11,7 +11,7 @@ use lib.Ieee.{Float, binary32, fits, le, eq}
 use lib.Ieee.Bits.{is_true}
 use Rattle.buffer.specs.Limits.{valid_rate}
 use Rattle.buffer.specs.declared.Shape.{Shape}
-use Rattle.seconds.specs.Seconds.{none, never}
+use Rattle.seconds.specs.Seconds.{float_zero, never}
 use Rattle.player.specs.Record.{shape_of, fresh_with}
 use Rattle.player.specs.declared.Player.{Player}
 use Rattle.player.specs.declared.PlayerOptions.{PlayerOptions}
@@ -138,7 +138,7 @@ pub record Begins (rate : Float) (es : List Event) : Type 0 where
   pub own_rate : clip.rate ≡ rate
   pub one_start : gathered start_in (opening es) ≡ start ∷ []
   pub in_time : T (starts_in_time start.when (playing es))
-  pub no_offset : T (eq start.offset none)
+  pub no_offset : T (eq start.offset float_zero)
   pub no_duration : start.duration ≡ never
   pub few_stops : length (gathered stop_in (opening es)) ≤ 1
   pub no_points : gathered point_in (opening es) ≡ []
@@ -170,14 +170,14 @@ module _ (rate : Float) (options : PlayerOptions) (f : T (fits binary32 rate)) (
     has_start = got.has_start;
     start = h.start.when;
     offset = h.start.offset;
-    position = none;
-    elapsed = none;
+    position = float_zero;
+    elapsed = float_zero;
     started = false;
     entered = false;
     aligned = false;
     ended = false;
     has_block = false;
-    time = none;
+    time = float_zero;
   }
 
   starts_are : start_part got ≡ h.start

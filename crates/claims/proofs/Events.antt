@@ -9,7 +9,7 @@ use lib.ListN.{length, get_or}
 use lib.Ieee.{Float, binary32, binary64, fits, lt, le}
 use lib.Ieee.Fits.{and_l}
 use lib.Ieee.Scale.{finite}
-use Rattle.seconds.specs.Seconds.{none, one}
+use Rattle.seconds.specs.Seconds.{float_zero, one}
 use Rattle.buffer.specs.Channels.{channel}
 use Rattle.player.specs.Block.{Plan, plan, latest, bad_block_time, bad_rate, bad_samples, checked, rendered, output, written, report_of}
 use Rattle.buffer.specs.declared.refusals.Refusal.{Refusal}
@@ -68,7 +68,7 @@ taken s x out samples t h f =
     let p = standing s x in
     let passed : checked 128 p (length out) (length samples) t one one ≡ Ok tt = block_taken _ (report_of (plan 128 p t one one)) h in
     let all = all_passed (not (eqb (length out) 4096)) (bad_block_time p t) false (bad_rate one one) (bad_samples p (length samples)) passed in
-    let w = times (finite t) (lt t none) (lt latest t) (x.has_block && le t x.time) all.time in
+    let w = times (finite t) (lt t float_zero) (lt latest t) (x.has_block && le t x.time) all.time in
     record {
       whole = eqb-true (length out) 4096 (not-false (eqb (length out) 4096) all.length);
       time = record { single = and_l (fits binary64 t) (fits binary32 one && fits binary64 one) f; whole = w.finite; some = w.some; early = w.early };

@@ -7,7 +7,7 @@ use lib.ListN.{length}
 use lib.Ieee.{of_bits, of_int, round, sum, add, mul, div, rem, lt, le, eq, ne, fits, neg, sub, to_unsigned}
 use Rattle.rounding.specs.Rounding.{round_away}
 use Rattle.buffer.specs.Limits.{valid_rate, valid_shape, duration}
-use Rattle.seconds.specs.Seconds.{none, never, dt, block_seconds, block_end}
+use Rattle.seconds.specs.Seconds.{float_zero, never, dt, block_seconds, block_end}
 use Rattle.player.specs.declared.PlayerOptions.{PlayerOptions}
 use Rattle.player.specs.Record.{fresh_with}
 use Rattle.player.specs.Messages.{clamped_start, clamped_end, clamped, bad_time, on_start, on_stop, on_loop, handled, buffered}
@@ -26,11 +26,11 @@ abbrev ownClip : Clip
 ownClip = record { channels = 1; frames = 3; rate = rate; samples = frames }
 
 abbrev ownStart : Started
-ownStart = record { when = none; offset = none; duration = never }
+ownStart = record { when = float_zero; offset = float_zero; duration = never }
 
 -- a list is met by what its accepted calls hold
 met : (options : PlayerOptions) (calls : List Call) (blocks : ℕ) → T (all_typed calls) → gathered clip_in (opening (accepted (fresh_with rate options) calls)) ≡ ownClip ∷ [] → gathered start_in (opening (accepted (fresh_with rate options) calls)) ≡ ownStart ∷ []
-    → T (starts_in_time none (playing (accepted (fresh_with rate options) calls))) → length (gathered switch_in (opening (accepted (fresh_with rate options) calls))) ≤ 1 → length (gathered stop_in (opening (accepted (fresh_with rate options) calls))) ≤ 1
+    → T (starts_in_time float_zero (playing (accepted (fresh_with rate options) calls))) → length (gathered switch_in (opening (accepted (fresh_with rate options) calls))) ≤ 1 → length (gathered stop_in (opening (accepted (fresh_with rate options) calls))) ≤ 1
     → gathered point_in (opening (accepted (fresh_with rate options) calls)) ≡ [] → OnlyBlocks frames (playing (accepted (fresh_with rate options) calls)) → length (playing (accepted (fresh_with rate options) calls)) ≡ blocks → Met options calls blocks
 unfolding valid_rate of_bits of_int round lt le eq fits
 met options calls blocks typed clips starts time switches stops points plain played = record {

@@ -22,7 +22,7 @@ use Rattle.rounding.proofs.Compare.{eq_value, lt_at, le_at}
 use Rattle.rounding.proofs.Sum.{Order, order, less, more, sum_alike, sum_less, sum_none}
 use Rattle.rounding.proofs.Sum as places
 use Rattle.rounding.specs.Rounding.{whole}
-use Rattle.seconds.specs.Seconds.{none, dt, block_seconds, instant, block_end}
+use Rattle.seconds.specs.Seconds.{float_zero, dt, block_seconds, instant, block_end}
 use Rattle.player.specs.Block.{latest}
 use Rattle.claims.proofs.Order.{eq_alike, eq_refl, lt_not_le}
 use Rattle.claims.proofs.Position.{Elapsed}
@@ -74,7 +74,7 @@ zero_time e = record {
   sums = zero_adds e;
 }
 
-pub time_of_lem : (t : Float) → T (fits binary64 t) → finite t ≡ true → lt t none ≡ false → lt latest t ≡ false → Time t
+pub time_of_lem : (t : Float) → T (fits binary64 t) → finite t ≡ true → lt t float_zero ≡ false → lt latest t ≡ false → Time t
 unfolding lt of_bits
 time_of_lem nan p q h k = absurd (true≢false (sym q))
 time_of_lem (inf s) p q h k = absurd (true≢false (sym q))

@@ -6,7 +6,7 @@ use lib.Dec.{T, lit≤}
 use lib.Ieee.{Float, binary64, add, mul, lt, le, ne, fits}
 use lib.Ieee.Exact.{HasValue}
 use lib.Ieee.Scale.{finite}
-use Rattle.seconds.specs.Seconds.{none, never, one, block_seconds, instant, block_end}
+use Rattle.seconds.specs.Seconds.{float_zero, never, one, block_seconds, instant, block_end}
 use Rattle.player.specs.Block.{latest}
 use Rattle.claims.proofs.Order as order
 use Rattle.claims.proofs.Position as position
@@ -17,7 +17,7 @@ use Rattle.claims.proofs.Instants as instants
 pub record Time (t : Float) : Type 0 where
   pub single : T (fits binary64 t)
   pub whole : finite t ≡ true
-  pub some : lt t none ≡ false
+  pub some : lt t float_zero ≡ false
   pub early : lt latest t ≡ false
 
 reckoned : (t : Float) → Time t → instants.Time t
@@ -32,9 +32,9 @@ pub record Below (x y : Float) : Type 0 where
 pub record Closed : Type 0 where
   pub one_one : mul binary64 one one ≡ one
   pub one_same : ne one one ≡ false
-  pub one_above : lt none one ≡ true
-  pub one_not_below : lt one none ≡ false
-  pub none_same : ne none none ≡ false
+  pub one_above : lt float_zero one ≡ true
+  pub one_not_below : lt one float_zero ≡ false
+  pub none_same : ne float_zero float_zero ≡ false
 
 pub closed : Closed
 closed = record { one_one = position.one_one; one_same = position.one_same; one_above = (position.none_below_one).0; one_not_below = (position.none_below_one).1; none_same = (position.none_same).1 }

@@ -18,7 +18,7 @@ use Rattle.rounding.proofs.Counted.{floor_is, floor_count}
 use Rattle.rounding.proofs.Compare.{lt_at, eq_value}
 use Rattle.tolerances.specs.declared.Tolerances.{Tolerances}
 use Rattle.tolerances.specs.Tolerances.{tolerances_of, defaults}
-use Rattle.seconds.specs.Seconds.{none}
+use Rattle.seconds.specs.Seconds.{float_zero}
 use Rattle.reshape.specs.Converting.{relabels_with, converted_length, converted_shape_with, playhead, previous, fraction, mixed, resampled, converted_samples_with}
 use Rattle.buffer.specs.declared.Shape.{Shape}
 use Rattle.buffer.specs.Limits.{valid_shape, valid_rate}
@@ -281,7 +281,7 @@ slower : Converts defaults (mono 3 48000) 3 (single 32000) (mono 2 32000)
 unfolding converted_shape_with converted_length relabels_with valid_shape valid_rate float_eq ceil magnitude round sum add sub mul div neg lt eq le of_int to_unsigned fits of_bits
 slower = record { source_single = tt; target_single = tt; accepted = refl; changes = refl }
 
-nearest : Converts (tolerances_of none none none) (mono 2 48000) 2 above (record { channels = 1; frames = 3; rate = above })
+nearest : Converts (tolerances_of float_zero float_zero float_zero) (mono 2 48000) 2 above (record { channels = 1; frames = 3; rate = above })
 unfolding converted_shape_with converted_length relabels_with valid_shape valid_rate float_eq ceil magnitude round sum add sub mul div neg lt eq le of_int to_unsigned fits of_bits
 nearest = record { source_single = tt; target_single = tt; accepted = refl; changes = refl }
 
@@ -289,7 +289,7 @@ converted : Converts defaults (mono 2 48000) 2 half_above (record { channels = 1
 unfolding converted_shape_with converted_length relabels_with valid_shape valid_rate float_eq ceil magnitude round sum add sub mul div neg lt eq le of_int to_unsigned fits of_bits
 converted = record { source_single = tt; target_single = tt; accepted = refl; changes = refl }
 
-within_half : relabels_with (tolerances_of none none half) (mono 2 48000) half_above ≡ true
+within_half : relabels_with (tolerances_of float_zero float_zero half) (mono 2 48000) half_above ≡ true
 unfolding relabels_with float_eq magnitude round sum sub neg lt eq le of_int of_bits
 within_half = refl
 

@@ -9,7 +9,7 @@ use lib.Dec.{T, eqb}
 use lib.ListN.{length}
 use lib.Ieee.{Float, binary32, of_bits, fits, lt, le, eq}
 use Rattle.buffer.specs.Limits.{valid_rate, valid_shape, duration, Valid, valid}
-use Rattle.seconds.specs.Seconds.{context, in_clip, none, never}
+use Rattle.seconds.specs.Seconds.{context, in_clip, float_zero, never}
 use Rattle.player.specs.Record.{shape_of, loop_of, render_of, fresh_with, given}
 use Rattle.player.specs.Messages.{clamped_start, clamped_end, clamped, bad_time, on_start, on_stop, on_loop, handled, buffered}
 use Rattle.buffer.specs.declared.Shape.{Shape}
@@ -36,7 +36,7 @@ pub record Received : Type 0 where
 
 -- the clip's duration, and 0 without a clip
 abbrev end_of : Bool → Shape → Float
-end_of has shape = cond has (duration shape.frames shape.rate) none
+end_of has shape = cond has (duration shape.frames shape.rate) float_zero
 
 -- the player then, with these loop points
 abbrev pointed : Float → PlayerOptions → Received → Bool → Float → Float → Player
@@ -47,20 +47,20 @@ pointed rate options a has from to = record {
   offset = in_clip a.offset;
   duration = in_clip a.length;
   loop_state = loop_of a.looped from to;
-  render_state = render_of none false false none false false;
+  render_state = render_of float_zero false false float_zero false false;
   has_start = a.has_start;
   has_buffer = has;
   shape = a.shape;
   has_block = false;
-  block_time = context none;
+  block_time = context float_zero;
   tolerances = options.tolerances;
 }
 
 abbrev pub opened : Float → PlayerOptions → Received → Player
-opened rate options a = pointed rate options a a.has_buffer none (end_of a.has_buffer a.shape)
+opened rate options a = pointed rate options a a.has_buffer float_zero (end_of a.has_buffer a.shape)
 
 abbrev pub nothing : Received
-nothing = record { has_start = false; start = never; stop = never; offset = none; length = never; looped = false; has_buffer = false; shape = shape_of 0 0 (of_bits binary32 0) }
+nothing = record { has_start = false; start = never; stop = never; offset = float_zero; length = never; looped = false; has_buffer = false; shape = shape_of 0 0 (of_bits binary32 0) }
 
 pub fresh_is : (rate : Float) (options : PlayerOptions) → fresh_with rate options ≡ opened rate options nothing
 unfolding fresh_with
@@ -89,15 +89,15 @@ abbrev pub SoundIf : Received → Type 0
 SoundIf a = a.has_buffer ≡ true → Sound a.shape.channels a.shape.frames a.shape.rate
 
 -- ---- clamping the loop points
-not-below : lt none none ≡ false
+not-below : lt float_zero float_zero ≡ false
 unfolding lt of_bits
 not-below = refl
 
-is_none : le none none ≡ true
+is_none : le float_zero float_zero ≡ true
 unfolding le lt eq of_bits
 is_none = refl
 
-pub keep_start : (d : Float) → lt d none ≡ false → clamped_start none d ≡ none
+pub keep_start : (d : Float) → lt d float_zero ≡ false → clamped_start float_zero d ≡ float_zero
 unfolding clamped_start
 keep_start d h = simp (not-below, h)
 
@@ -107,23 +107,23 @@ either false d = refl
 
 pub keep_end : (d : Float) → clamped_end d d ≡ d
 unfolding clamped_end
-keep_end d = either (le d none || lt d d) d
+keep_end d = either (le d float_zero || lt d d) d
 
-set_end : (d : Float) → clamped_end none d ≡ d
+set_end : (d : Float) → clamped_end float_zero d ≡ d
 unfolding clamped_end
 set_end d = simp is_none
 
 -- the loop points of a clip that stands are kept, and those of one that has just come are set
 module _ (rate : Float) (options : PlayerOptions) (a : Received) where
-  clamp_keeps : (a.has_buffer ≡ true → lt (duration a.shape.frames a.shape.rate) none ≡ false) → clamped (opened rate options a) ≡ opened rate options a
+  clamp_keeps : (a.has_buffer ≡ true → lt (duration a.shape.frames a.shape.rate) float_zero ≡ false) → clamped (opened rate options a) ≡ opened rate options a
   unfolding clamped
   clamp_keeps h = go a.has_buffer h
     where
-      go : (b : Bool) → (b ≡ true → lt (duration a.shape.frames a.shape.rate) none ≡ false) → clamped (pointed rate options a b none (end_of b a.shape)) ≡ pointed rate options a b none (end_of b a.shape)
+      go : (b : Bool) → (b ≡ true → lt (duration a.shape.frames a.shape.rate) float_zero ≡ false) → clamped (pointed rate options a b float_zero (end_of b a.shape)) ≡ pointed rate options a b float_zero (end_of b a.shape)
       go true k = ap₂ (λ (x y : Float). pointed rate options a true x y) (keep_start _ (k refl)) (keep_end _)
       go false k = refl
 
-  clamp_sets : lt (duration a.shape.frames a.shape.rate) none ≡ false → clamped (pointed rate options a true none none) ≡ pointed rate options a true none (duration a.shape.frames a.shape.rate)
+  clamp_sets : lt (duration a.shape.frames a.shape.rate) float_zero ≡ false → clamped (pointed rate options a true float_zero float_zero) ≡ pointed rate options a true float_zero (duration a.shape.frames a.shape.rate)
   unfolding clamped
   clamp_sets h = ap₂ (λ (x y : Float). pointed rate options a true x y) (keep_start _ h) (set_end _)
 
@@ -154,10 +154,10 @@ no_point x l e = let z : ◌≡◌ {A = ℕ} 0 1 = cc in omega arith
 
 -- a positive duration for every clip that the table accepts
 abbrev pub SomeSeconds : Type 0
-SomeSeconds = (n : ℕ) (r : Float) → 1 ≤ n → n ≤ 16777216 → T (fits binary32 r) → T (valid_rate r) → lt (duration n r) none ≡ false
+SomeSeconds = (n : ℕ) (r : Float) → 1 ≤ n → n ≤ 16777216 → T (fits binary32 r) → T (valid_rate r) → lt (duration n r) float_zero ≡ false
 
 module _ (seconds : SomeSeconds) (rate : Float) (options : PlayerOptions) where
-  stands : (a : Received) → SoundIf a → a.has_buffer ≡ true → lt (duration a.shape.frames a.shape.rate) none ≡ false
+  stands : (a : Received) → SoundIf a → a.has_buffer ≡ true → lt (duration a.shape.frames a.shape.rate) float_zero ≡ false
   stands a s h = let k = s h in seconds a.shape.frames a.shape.rate k.long k.short k.single k.proper
 
   open_buffer : (a : Received) (channels frames : ℕ) (r : Float) (samples : List ℕ) → is_done (buffered (opened rate options a) channels frames r (length samples)) ≡ true → T (fits binary32 r)
@@ -172,7 +172,7 @@ module _ (seconds : SomeSeconds) (rate : Float) (options : PlayerOptions) where
       let s : Sound channels frames r = record { some = v.some; few = v.few; long = one_more; short = v.short; proper = subst T (sym f.second) tt; single = t } in
       let b = receive a (buffer channels frames r samples) in (
         f.result
-            ∙ ap (λ (x : Bool). clamped (pointed rate options b true none (end_of x a.shape))) f.third
+            ∙ ap (λ (x : Bool). clamped (pointed rate options b true float_zero (end_of x a.shape))) f.third
             ∙ clamp_sets rate options b (seconds frames r one_more v.short t s.proper),
         s,
       )

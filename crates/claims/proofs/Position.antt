@@ -26,7 +26,7 @@ use Rattle.claims.proofs.Order.{lt_asym, lt_not_le, lt-le, lt_irrefl, ne_irrefl,
 use Rattle.claims.proofs.Units.{none_units, block_lasts, by_one, roughly, rate_pos, quotient_fine}
 use Rattle.buffer.specs.Limits.{duration}
 use Rattle.rounding.specs.Rounding.{whole}
-use Rattle.seconds.specs.Seconds.{none, never, one, block_seconds}
+use Rattle.seconds.specs.Seconds.{float_zero, never, one, block_seconds}
 
 -- x seconds at the rate r, which is R of binary32's units, are a frames within j times 2 ^ -28 frame: counted in whole multiples of 2 ^ -1223
 pub record Frames (r x : Float) (R j a : ℕ) : Type 0 where
@@ -105,7 +105,7 @@ reported : (E C B x y j : ℕ) → j ≤ C → C * E ≤ B → Within (j * E) x 
 reported E C B x y j l b h = omega (arith, mul-le-mul_right E l)
 
 -- ---- no frames
-pub frames_zero : (r : Float) (R : ℕ) → Frames r none R 0 0
+pub frames_zero : (r : Float) (R : ℕ) → Frames r float_zero R 0 0
 frames_zero r R = record { units = 0; value = none_units; near = nothing R (2 ^ 1195) (2 ^ 1223) }
 
 -- ---- fewer frames are fewer seconds
@@ -129,11 +129,11 @@ pub one_same : ne one one ≡ false
 unfolding of_bits ne
 one_same = refl
 
-pub none_same : (eq none none ≡ true) × (ne none none ≡ false)
+pub none_same : (eq float_zero float_zero ≡ true) × (ne float_zero float_zero ≡ false)
 unfolding of_bits eq ne
 none_same = (refl, refl)
 
-pub none_below_one : (lt none one ≡ true) × (lt one none ≡ false)
+pub none_below_one : (lt float_zero one ≡ true) × (lt one float_zero ≡ false)
 unfolding of_bits lt
 none_below_one = (refl, refl)
 
@@ -166,7 +166,7 @@ rem_below f (fin false m e) (fin false n g) a c b d h k t l =
     same p q w = omega arith
 
 -- the divisor itself leaves nothing
-rem_self : (x : Float) (a c : ℕ) → HasValue x false a c → 0 < a → rem binary64 x x ≡ none
+rem_self : (x : Float) (a c : ℕ) → HasValue x false a c → 0 < a → rem binary64 x x ≡ float_zero
 unfolding rem round of_bits
 rem_self nan a c h l = absurd h
 rem_self (inf s) a c h l = absurd h
@@ -195,7 +195,7 @@ grown x d n u C h g N = omega (arith, mul-le-mul_right u N)
 grown_fine : (x u C M : ℕ) → 0 < u → x * 1 ≤ (C + 1) * u → C + 2 ≤ M → x < M * u
 grown_fine x u C M U h m = omega (arith, mul-le-mul_right u m)
 
-pub elapsed_none : Elapsed none
+pub elapsed_none : Elapsed float_zero
 elapsed_none = record { units = 0; value = none_units; bound = lit≤ tt }
 
 far : (x y z : ℕ) → x ≤ y → y < z → x * 1 < z
@@ -304,13 +304,13 @@ module _ (r : Float) (R : ℕ) (v : HasValue r false R (2 ^ 149)) (lo : 3000 * 2
     clip_positive : 0 < (frames_duration L L24).units
     clip_positive = ordered (2 ^ 1195) (2 ^ 1223) R 0 (frames_duration L L24).units 0 1 0 L (lit< tt) L1 (nothing R (2 ^ 1195) (2 ^ 1223)).0 (frames_duration L L24).near.1
 
-    pub clip_not_none : (lt none (duration L r) ≡ true) × (lt (duration L r) none ≡ false) × (le (duration L r) none ≡ false) × (le none (duration L r) ≡ true)
-    clip_not_none = frames_below r none (duration L r) R 0 1 0 L (frames_zero r R) (frames_duration L L24) (lit< tt) L1
+    pub clip_not_none : (lt float_zero (duration L r) ≡ true) × (lt (duration L r) float_zero ≡ false) × (le (duration L r) float_zero ≡ false) × (le float_zero (duration L r) ≡ true)
+    clip_not_none = frames_below r float_zero (duration L r) R 0 1 0 L (frames_zero r R) (frames_duration L L24) (lit< tt) L1
 
     pub clip_itself : (lt (duration L r) (duration L r) ≡ false) × (ne (duration L r) (duration L r) ≡ false)
     clip_itself = (lt_irrefl (duration L r), ne_irrefl (duration L r) (value_finite (duration L r) false (frames_duration L L24).units (2 ^ 1074) (frames_duration L L24).value))
 
     -- the whole clip is no frames
-    pub wrap_whole : rem binary64 (div binary64 (whole L) r) (duration L r) ≡ none
+    pub wrap_whole : rem binary64 (div binary64 (whole L) r) (duration L r) ≡ float_zero
     unfolding duration
     wrap_whole = rem_self (duration L r) (frames_duration L L24).units (2 ^ 1074) (frames_duration L L24).value clip_positive

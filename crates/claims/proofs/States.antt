@@ -11,7 +11,7 @@ use lib.Dec.{ltb}
 use lib.Ieee.{Float, binary64, add, mul, lt, le, eq}
 use lib.Ieee.Exact.{HasValue}
 use Rattle.buffer.specs.Limits.{duration}
-use Rattle.seconds.specs.Seconds.{context, in_clip, none, never, one, block_seconds, block_end, instant}
+use Rattle.seconds.specs.Seconds.{context, in_clip, float_zero, never, one, block_seconds, block_end, instant}
 use Rattle.player.specs.Record.{shape_of, loop_of, render_of}
 use Rattle.aligned.specs.Aligned.{first_frame, ends_within, aligned_sample, last_wrap, aligned_position}
 use Rattle.sub_sample.specs.SubSample.{head_at, is_idle, info_of_sample}
@@ -75,7 +75,7 @@ standing s x = record {
   stop_time = context s.stop;
   offset = in_clip x.offset;
   duration = in_clip never;
-  loop_state = loop_of x.looped none (duration s.frames s.rate);
+  loop_state = loop_of x.looped float_zero (duration s.frames s.rate);
   render_state = render_of x.position x.started x.entered x.elapsed x.aligned x.ended;
   has_start = x.has_start;
   has_buffer = true;
@@ -136,7 +136,7 @@ start_at_lem x t h l n = ap (λ (b : Bool). eq (cond (not b && lt x.start t) t x
 -- ---- a player that goes on: its position is p frames
 pub record Alive (s : Setup) (R p : ℕ) (x : State) : Type 0 where
   pub going : x.ended ≡ false
-  pub ready : (x.aligned ≡ true) ⊎ ((x.started ≡ false) × (eq x.offset none ≡ true))
+  pub ready : (x.aligned ≡ true) ⊎ ((x.started ≡ false) × (eq x.offset float_zero ≡ true))
   pub elapsed : Elapsed x.elapsed
   pub inside : p ≤ s.frames
   pub place : Place s.rate R x.position p
@@ -160,15 +160,15 @@ module _ (g : Ground) where
     not_late : le (block_end 128 t s.rate) x.start ≡ false
     not_late = order.lt_not_le x.start (block_end 128 t s.rate) (order.le_lt_trans x.start t (block_end 128 t s.rate) l (end_later s.rate R g.value g.low g.high t h))
 
-    aligned_first : (x.aligned || eq (begins x t) t && eq x.offset none) ≡ true
+    aligned_first : (x.aligned || eq (begins x t) t && eq x.offset float_zero) ≡ true
     aligned_first = go a.ready
       where
         or-true : (b : Bool) → (b || true) ≡ true
         or-true true = refl
         or-true false = refl
 
-        go : (x.aligned ≡ true) ⊎ ((x.started ≡ false) × (eq x.offset none ≡ true)) → (x.aligned || eq (begins x t) t && eq x.offset none) ≡ true
-        go (inl e) = ap (λ (b : Bool). b || eq (begins x t) t && eq x.offset none) e
+        go : (x.aligned ≡ true) ⊎ ((x.started ≡ false) × (eq x.offset float_zero ≡ true)) → (x.aligned || eq (begins x t) t && eq x.offset float_zero) ≡ true
+        go (inl e) = ap (λ (b : Bool). b || eq (begins x t) t && eq x.offset float_zero) e
         go (inr e) = ap₂ (λ (b c : Bool). x.aligned || b && c) (start_at_lem x t h l e.0) e.1 ∙ or-true x.aligned
 
     not_far : lt never (add binary64 x.position (block_seconds 128 s.rate)) ≡ false
@@ -249,9 +249,9 @@ module _ (g : Ground) where
     unfolding carried has_ended
     carried_ended =
         let u = (elapsed_under_never longer longer_elapsed).0 in
-        let c : lt none (mul binary64 one one) ≡ true = ap (lt none) closed.one_one ∙ closed.one_above in
-        let d : lt (mul binary64 one one) none ≡ false = ap (λ (y : Float). lt y none) closed.one_one ∙ closed.one_not_below in
-        flat (le s.stop (block_end 128 t s.rate)) (le never longer) (not x.looped) (lt none (mul binary64 one one)) (le (duration s.frames s.rate) later) (lt (mul binary64 one one) none) (lt later none) u c d
+        let c : lt float_zero (mul binary64 one one) ≡ true = ap (lt float_zero) closed.one_one ∙ closed.one_above in
+        let d : lt (mul binary64 one one) float_zero ≡ false = ap (λ (y : Float). lt y float_zero) closed.one_one ∙ closed.one_not_below in
+        flat (le s.stop (block_end 128 t s.rate)) (le never longer) (not x.looped) (lt float_zero (mul binary64 one one)) (le (duration s.frames s.rate) later) (lt (mul binary64 one one) float_zero) (lt later float_zero) u c d
       where
         or-false : (b : Bool) → (b || false) ≡ b
         or-false true = refl
@@ -353,7 +353,7 @@ module _ (g : Ground) where
 
     pub between_stops : le s.stop (block_end 128 t s.rate) ≡ true → cut_short.ended ≡ true
     unfolding cut_short has_ended
-    between_stops h = ap (λ (b : Bool). b || le never last.buffer_time_elapsed.0 || not x.looped && (lt none (mul binary64 one one) && le (duration s.frames s.rate) last.buffer_time.0 || lt (mul binary64 one one) none && lt last.buffer_time.0 none)) h
+    between_stops h = ap (λ (b : Bool). b || le never last.buffer_time_elapsed.0 || not x.looped && (lt float_zero (mul binary64 one one) && le (duration s.frames s.rate) last.buffer_time.0 || lt (mul binary64 one one) float_zero && lt last.buffer_time.0 float_zero)) h
 
     -- a sample at or after the stop is zero
     pub between_zero : (frames : List ℕ) (i : ℕ) → le s.stop (instant t s.rate i) ≡ true → (sub_sample_plan 128 (standing s x) t one (mul binary64 one one)).sample frames i ≡ 0
@@ -381,7 +381,7 @@ switched x on = record {
   time = x.time;
 }
 
-pub switch_player : (s : Setup) (x : State) (on : Bool) → lt (duration s.frames s.rate) none ≡ false → next (standing s x) (message (Loop on)) ≡ standing s (switched x on)
+pub switch_player : (s : Setup) (x : State) (on : Bool) → lt (duration s.frames s.rate) float_zero ≡ false → next (standing s x) (message (Loop on)) ≡ standing s (switched x on)
 unfolding next handled on_loop clamped
 switch_player s x on h =
     let d = duration s.frames s.rate in

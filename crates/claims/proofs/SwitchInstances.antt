@@ -7,7 +7,7 @@ use lib.ListN.{length}
 use lib.Ieee.{of_bits, of_int, round, sum, add, mul, div, rem, lt, le, eq, ne, fits, neg, sub, to_unsigned}
 use Rattle.rounding.specs.Rounding.{round_away}
 use Rattle.buffer.specs.Limits.{valid_rate, valid_shape, duration}
-use Rattle.seconds.specs.Seconds.{none, never, dt, block_seconds, block_end}
+use Rattle.seconds.specs.Seconds.{float_zero, never, dt, block_seconds, block_end}
 use Rattle.player.specs.declared.PlayerOptions.{PlayerOptions}
 use Rattle.player.specs.Record.{fresh_with}
 use Rattle.player.specs.Messages.{clamped_start, clamped_end, clamped, bad_time, on_start, on_stop, on_loop, handled, buffered}
@@ -26,11 +26,11 @@ abbrev own_clip : ℕ → Clip
 own_clip l = record { channels = 1; frames = l; rate = rate; samples = frames l }
 
 abbrev own_start : Started
-own_start = record { when = none; offset = none; duration = never }
+own_start = record { when = float_zero; offset = float_zero; duration = never }
 
 -- a list is met by what its accepted calls hold
 met : (options : PlayerOptions) (l : ℕ) (calls : List Call) (count : ℕ) (t : Tape) → T (all_typed calls) → gathered clip_in (opening (accepted (fresh_with rate options) calls)) ≡ own_clip l ∷ []
-    → gathered start_in (opening (accepted (fresh_with rate options) calls)) ≡ own_start ∷ [] → T (starts_in_time none (playing (accepted (fresh_with rate options) calls)))
+    → gathered start_in (opening (accepted (fresh_with rate options) calls)) ≡ own_start ∷ [] → T (starts_in_time float_zero (playing (accepted (fresh_with rate options) calls)))
     → gathered stop_in (opening (accepted (fresh_with rate options) calls)) ≡ [] → gathered point_in (opening (accepted (fresh_with rate options) calls)) ≡ []
     → OnlySteps (frames l) (playing (accepted (fresh_with rate options) calls)) → T (stays_off 128 l tape.fresh (gathered step_in (accepted (fresh_with rate options) calls)))
     → length (accepted (fresh_with rate options) calls) ≡ count → tape_after l (accepted (fresh_with rate options) calls) ≡ t → MetSwitch options l calls count t

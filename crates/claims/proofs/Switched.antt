@@ -8,7 +8,7 @@ use lib.Dec.{T}
 use lib.ListN.{length}
 use lib.Ieee.{Float, binary32, fits, le}
 use Rattle.buffer.specs.Limits.{valid_rate}
-use Rattle.seconds.specs.Seconds.{none, block_end}
+use Rattle.seconds.specs.Seconds.{float_zero, block_end}
 use Rattle.player.specs.Record.{fresh_with}
 use Rattle.player.specs.declared.Player.{Player}
 use Rattle.player.specs.declared.PlayerOptions.{PlayerOptions}
@@ -118,12 +118,12 @@ begins_by rate es h = record {
   in_time = h.in_time;
   no_offset = h.no_offset;
   no_duration = h.no_duration;
-  few_stops = none (gathered stop_in (opening es)) h.no_stop;
+  few_stops = float_zero (gathered stop_in (opening es)) h.no_stop;
   no_points = h.no_points;
 }
   where
-    none : (l : List Float) → l ≡ [] → length l ≤ 1
-    none l e = rw e (omega arith)
+    float_zero : (l : List Float) → l ≡ [] → length l ≤ 1
+    float_zero l e = rw e (omega arith)
 
 module _ (rate : Float) (options : PlayerOptions) (f : T (fits binary32 rate)) (ok : T (valid_rate rate)) (calls : List Call) (ty : T (all_typed calls)) (h : SwitchPremises rate (accepted (fresh_with rate options) calls)) where
   abbrev es : List Event
@@ -207,7 +207,7 @@ module _ (rate : Float) (options : PlayerOptions) (f : T (fits binary32 rate)) (
   beside_opened a = record {
     has_ended = λ e. absurd (false≢true e);
     not_before = λ e n. refl;
-    position = λ e. reports rate g.units g.value g.low g.high none 0 0 (frames_zero rate g.units) (omega arith);
+    position = λ e. reports rate g.units g.value g.low g.high float_zero 0 0 (frames_zero rate g.units) (omega arith);
   }
 
   beside_lem : (front back : List Event) → es ≡ front ++ back → Beside rate (tape_after h.clip.frames front) (after_all (fresh_with rate options) front)
@@ -269,7 +269,7 @@ off_loops n l a (e ∷ es) rest nb h =
     (off_one n l a e.call (gathered step_in es ++ rest) nb.0 (off_loops n l (receive a e.call) es rest nb.1 h))
 
 older_lem : (rate : Float) (options : PlayerOptions) (calls : List Call) (h : Premises rate (accepted (fresh_with rate options) calls)) → gathered stop_in (opening (accepted (fresh_with rate options) calls)) ≡ [] → SwitchPremises rate (accepted (fresh_with rate options) calls)
-older_lem rate options calls h none =
+older_lem rate options calls h float_zero =
     let es = accepted (fresh_with rate options) calls in
     let l = h.clip.frames in
     let blocks : T (stays_off 128 l (begun (receive_all nothing (opening es)).looped) (gathered step_in (playing es))) =
@@ -283,7 +283,7 @@ older_lem rate options calls h none =
       in_time = h.in_time;
       no_offset = h.no_offset;
       no_duration = h.no_duration;
-      no_stop = none;
+      no_stop = float_zero;
       no_points = h.no_points;
       only_steps = only_steps_of h.clip.samples (playing es) h.only_blocks;
       stays_off =

@@ -16,17 +16,17 @@ use Rattle.rounding.proofs.Operations.{div_near}
 use Rattle.rounding.proofs.Exact.{Significand, significand, two_values, mul-pow, whole_exact}
 use Rattle.buffer.specs.Limits.{valid_rate}
 use Rattle.rounding.specs.Rounding.{whole}
-use Rattle.seconds.specs.Seconds.{none, one, dt, block_seconds}
+use Rattle.seconds.specs.Seconds.{float_zero, one, dt, block_seconds}
 
 pub one_value : HasValue one false 1 1
 unfolding of_bits
 one_value = (refl, refl)
 
-pub none_value : HasValue none false 0 1
+pub none_value : HasValue float_zero false 0 1
 unfolding of_bits
 none_value = (refl, refl)
 
-pub none_units : HasValue none false 0 (2 ^ 1074)
+pub none_units : HasValue float_zero false 0 (2 ^ 1074)
 unfolding of_bits
 none_units = (refl, refl)
 

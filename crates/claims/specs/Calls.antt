@@ -2,7 +2,7 @@
 use Rattle.std.specs.Prelude.{Bool, true, false, ◌&&◌, cond, List, [], ◌∷◌, ◌++◌, ℕ, ◌+◌, ◌*◌, length, get_or, Float}
 use Rattle.std.specs.Float.{binary32, binary64}
 use Rattle.std.specs.Float.Ieee.{fits}
-use Rattle.seconds.specs.Seconds.{none}
+use Rattle.seconds.specs.Seconds.{float_zero}
 use Rattle.player.specs.Messages.{handled, buffered}
 use Rattle.player.specs.Block.{rendered, output}
 use Rattle.player.specs.declared.Player.{Player}
@@ -98,8 +98,8 @@ after_all p (e ∷ es) = after_all (after e) es
 
 -- ---- what an accepted block gave: its time, the answered channels, and sample i of channel c in the output as it then stands
 abbrev pub time_of : Call → Float
-time_of (buffer channels frames rate samples) = none
-time_of (message m) = none
+time_of (buffer channels frames rate samples) = float_zero
+time_of (message m) = float_zero
 time_of (block out samples time rate factor) = time
 
 abbrev pub channels_by : Player → Call → ℕ

@@ -10,7 +10,7 @@ use Rattle.buffer.specs.declared.Shape.{Shape}
 use Rattle.buffer.specs.Channels.{channel}
 use Rattle.tolerances.specs.declared.Tolerances.{Tolerances}
 use Rattle.tolerances.specs.Tolerances.{tolerances_of, defaults}
-use Rattle.seconds.specs.Seconds.{none}
+use Rattle.seconds.specs.Seconds.{float_zero}
 use Rattle.reshape.specs.Converting.{relabels_with, converted_shape_with, converted_samples_with, playhead}
 use Rattle.reshape.specs.Known.{single, mono}
 
@@ -68,8 +68,8 @@ pub record KeepsTime : Type 0 where
   pub up : Converts defaults (mono 2 24000) 2 (single 48000) (mono 4 48000)
   pub down : Converts defaults (mono 3 48000) 3 (single 32000) (mono 2 32000)
   -- with the distance 0, from 48,000 to the next f32 above it, 2 frames make 3; with the default they are relabelled
-  pub next : Converts (tolerances_of none none none) (mono 2 48000) 2 above (record { channels = 1; frames = 3; rate = above })
+  pub next : Converts (tolerances_of float_zero float_zero float_zero) (mono 2 48000) 2 above (record { channels = 1; frames = 3; rate = above })
   pub relabelled : relabels_with defaults (mono 2 48000) above ≡ true
   -- to 48,000.5 the default makes 3 frames, and with the distance 1/2 they are relabelled
   pub converted : Converts defaults (mono 2 48000) 2 half_above (record { channels = 1; frames = 3; rate = half_above })
-  pub relabelled_wider : relabels_with (tolerances_of none none half) (mono 2 48000) half_above ≡ true
+  pub relabelled_wider : relabels_with (tolerances_of float_zero float_zero half) (mono 2 48000) half_above ≡ true

@@ -5,7 +5,7 @@ use Rattle.std.specs.Float.{binary64}
 use Rattle.std.specs.Float.Ieee.{of_bits, sub, mul}
 use Rattle.rounding.specs.Rounding.{widen}
 use Rattle.rounding.specs.Near.{near, near_zero, float_eq}
-use Rattle.seconds.specs.Seconds.{none, one}
+use Rattle.seconds.specs.Seconds.{float_zero, one}
 use Rattle.buffer.specs.declared.Shape.{Shape}
 use Rattle.buffer.specs.declared.refusals.Refusal.{Refusal}
 use Rattle.buffer.specs.declared.refusals.Refusal.TheVariants as refused
@@ -39,7 +39,7 @@ module _ (n z d : Float) where
   -- near zero, the position is zero
   unfoldable pub settled : Playhead → Playhead
   settled h =
-      head_of h.start_time.0 h.offset.0 (cond (is_near_zero h.buffer_time.0) none h.buffer_time.0)
+      head_of h.start_time.0 h.offset.0 (cond (is_near_zero h.buffer_time.0) float_zero h.buffer_time.0)
       h.buffer_time_elapsed.0 h.started h.entered_loop
 
   -- the playhead of a sample that plays
@@ -49,7 +49,7 @@ module _ (n z d : Float) where
   -- unlooped, the sample after the last is continued from the last two frames
   unfoldable pub extrapolated : List ℕ → ℕ → Float → Float
   extrapolated channel frame k =
-      cond (is_near k one || eqb frame 0) none
+      cond (is_near k one || eqb frame 0) float_zero
       (sub binary64 (mul binary64 (of_bits binary64 0x4000_0000_0000_0000) (widen (get_or channel frame 0))) (widen (get_or channel (frame - 1) 0)))
 
   -- the sample after frame number `frame`

@@ -4,7 +4,7 @@ use Rattle.std.specs.Float.{fin, binary32}
 use Rattle.std.specs.Float.Ieee.{fits}
 use Rattle.buffer.specs.Limits.{valid_rate}
 use Rattle.buffer.specs.declared.refusals.Refusal.TheVariants as refused
-use Rattle.seconds.specs.Seconds.{none, never, one}
+use Rattle.seconds.specs.Seconds.{float_zero, never, one}
 use Rattle.player.specs.Record.{fresh_with}
 use Rattle.player.specs.declared.PlayerOptions.{PlayerOptions}
 use Rattle.player.specs.declared.ControlMessage.TheVariants.{Start, Stop, Loop}
@@ -25,7 +25,7 @@ abbrev pub clip : Call
 clip = buffer 1 3 rate frames
 
 abbrev pub start : Call
-start = message (Start none none never)
+start = message (Start float_zero float_zero never)
 
 -- a block lent an output of 4,096 words
 abbrev pub block_at : Float → Call
@@ -40,13 +40,13 @@ tock = fin false 1 (negsuc 6)
 
 -- refused calls are strewn in: a stop before the start, a second start, a second clip, a block at the last block's time
 abbrev pub looped_calls : List Call
-looped_calls = message (Stop none) ∷ clip ∷ start ∷ start ∷ message (Loop true) ∷ clip ∷ block_at none ∷ block_at none ∷ block_at tick ∷ []
+looped_calls = message (Stop float_zero) ∷ clip ∷ start ∷ start ∷ message (Loop true) ∷ clip ∷ block_at float_zero ∷ block_at float_zero ∷ block_at tick ∷ []
 
 abbrev pub plain_calls : List Call
-plain_calls = start ∷ clip ∷ block_at none ∷ block_at tick ∷ []
+plain_calls = start ∷ clip ∷ block_at float_zero ∷ block_at tick ∷ []
 
 abbrev pub stopped_calls : List Call
-stopped_calls = start ∷ message (Stop tick) ∷ clip ∷ block_at none ∷ block_at tick ∷ block_at tock ∷ []
+stopped_calls = start ∷ message (Stop tick) ∷ clip ∷ block_at float_zero ∷ block_at tick ∷ block_at tock ∷ []
 
 -- a block in cents
 abbrev pub cents_at : Float → ℤ → LongerCall
@@ -56,8 +56,8 @@ cents_at time cents = in_cents (replicate 4096 7) frames time one cents
 -- at that time is refused too, and stays.
 abbrev pub longer_calls : List LongerCall
 longer_calls =
-    plain start ∷ plain clip ∷ plain (message (Loop true)) ∷ cents_at none (pos 0) ∷ cents_at tick (pos 12001) ∷ cents_at none (pos 0)
-    ∷ plain (block_at none) ∷ cents_at tick (pos 0) ∷ []
+    plain start ∷ plain clip ∷ plain (message (Loop true)) ∷ cents_at float_zero (pos 0) ∷ cents_at tick (pos 12001) ∷ cents_at float_zero (pos 0)
+    ∷ plain (block_at float_zero) ∷ cents_at tick (pos 0) ∷ []
 
 -- previews, of a block and of one in cents, lent a second output of as many words; and one lent too short an output
 abbrev pub look_at : Float → LongerCall
@@ -73,12 +73,12 @@ short_look time = preview (replicate 128 9) frames time one one
 -- output (8). All seven are left out.
 abbrev pub previewed_calls : List LongerCall
 previewed_calls =
-    look_at none ∷ plain start ∷ plain clip ∷ look_in_cents none (pos 50) ∷ plain (block_at none) ∷ look_at none ∷ look_at tick ∷ look_in_cents tick (pos 12001)
+    look_at float_zero ∷ plain start ∷ plain clip ∷ look_in_cents float_zero (pos 50) ∷ plain (block_at float_zero) ∷ look_at float_zero ∷ look_at tick ∷ look_in_cents tick (pos 12001)
     ∷ short_look tick ∷ cents_at tick (pos 0) ∷ look_at tock ∷ []
 
 -- previews alone, as they may stand between a preview and the block that it shows
 abbrev pub between_calls : List LongerCall
-between_calls = look_at tick ∷ look_in_cents none (pos 50) ∷ short_look tock ∷ []
+between_calls = look_at tick ∷ look_in_cents float_zero (pos 50) ∷ short_look tock ∷ []
 
 -- the premises are met by a player made with these options, and this many blocks are accepted
 pub record Met (options : PlayerOptions) (calls : List Call) (blocks : ℕ) : Type 0 where
@@ -98,8 +98,8 @@ pub record MetLonger (options : PlayerOptions) (calls : List LongerCall) (left b
 pub record MetPreviews (options : PlayerOptions) : Type 0 where
   pub between : unlooked between_calls ≡ []
   pub lengths : length {A = ℕ} (replicate 4096 9) ≡ length {A = ℕ} (replicate 4096 7)
-  pub short : previewed 128 (fresh_with rate options) 128 3 none one one ≡ Err refused.Length
-  pub far : previewed_cents 128 (fresh_with rate options) 4096 3 none one (pos 12001) ≡ Err refused.Cents
+  pub short : previewed 128 (fresh_with rate options) 128 3 float_zero one one ≡ Err refused.Length
+  pub far : previewed_cents 128 (fresh_with rate options) 4096 3 float_zero one (pos 12001) ≡ Err refused.Cents
 
 -- and that whatever the player is made with
 pub record Instances : Type 0 where

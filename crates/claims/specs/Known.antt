@@ -6,7 +6,7 @@ use Rattle.fused.specs.Known.{KnownFused}
 use Rattle.buffer.specs.Known.{KnownBuffer}
 use Rattle.reshape.specs.Known.{KnownReshape}
 use Rattle.lists.specs.Table.{table}
-use Rattle.seconds.specs.Seconds.{none, never, one, block_end}
+use Rattle.seconds.specs.Seconds.{float_zero, never, one, block_end}
 use Rattle.player.specs.Record.{fresh}
 use Rattle.player.specs.Messages.{clamped_start, clamped_end}
 use Rattle.player.specs.Block.{plan}
@@ -26,8 +26,8 @@ two = fin false 1 (pos 1)
 
 unfoldable pub KnownLoopPoints : Type 0
 KnownLoopPoints =
-    (clamped_end none one ≡ one) × (clamped_end minus_one one ≡ one) × (clamped_end one_point_five one ≡ one)
-    × (clamped_start minus_one one ≡ none) × (clamped_start two one ≡ one)
+    (clamped_end float_zero one ≡ one) × (clamped_end minus_one one ≡ one) × (clamped_end one_point_five one ≡ one)
+    × (clamped_start minus_one one ≡ float_zero) × (clamped_start two one ≡ one)
 
 -- ---- playback at 48,000 = 375 × 2 ^ 7 of one channel, in which frame i has the bits i + 1
 abbrev rate : Float
@@ -38,14 +38,14 @@ words l = table l (λ i. i + 1)
 
 -- the player with a clip of l frames, started at 0, the loop as it says
 abbrev pub begun : Bool → ℕ → Player
-begun looped l = next (next (next (fresh rate) (buffer 1 l rate (words l))) (message (Start none none never))) (message (Loop looped))
+begun looped l = next (next (next (fresh rate) (buffer 1 l rate (words l))) (message (Start float_zero float_zero never))) (message (Loop looped))
 
 -- the player after its first block, and sample 0 of block 1, which begins where block 0 ends
 abbrev pub after : Bool → ℕ → Player
-after looped l = (plan 128 (begun looped l) none one one).player
+after looped l = (plan 128 (begun looped l) float_zero one one).player
 
 abbrev pub sample_of_block_one : Bool → ℕ → ℕ
-sample_of_block_one looped l = (plan 128 (after looped l) (block_end 128 none rate) one one).sample (words l) 0
+sample_of_block_one looped l = (plan 128 (after looped l) (block_end 128 float_zero rate) one one).sample (words l) 0
 
 -- 'L = 3 looped: block 1 starts on frame 2. L = 128 looped: on frame 0. L = 128 unlooped: ended after one block.'
 unfoldable pub KnownPlayback : Type 0

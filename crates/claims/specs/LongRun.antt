@@ -3,7 +3,7 @@ use Rattle.std.specs.Prelude.{◌≡◌, Bool, true, false, ◌&&◌, ◌||◌, 
 use Rattle.std.specs.Float.{binary32}
 use Rattle.std.specs.Float.Ieee.{fits, lt, le, eq}
 use Rattle.std.specs.Float.Ieee.Exact.{HasValue}
-use Rattle.seconds.specs.Seconds.{none, never, one, instant, block_end}
+use Rattle.seconds.specs.Seconds.{float_zero, never, one, instant, block_end}
 use Rattle.buffer.specs.Limits.{valid_rate}
 use Rattle.player.specs.Record.{fresh_with}
 use Rattle.buffer.specs.Channels.{channel}
@@ -36,7 +36,7 @@ pub record Premises (rate : Float) (es : List Event) : Type 0 where
   pub own_rate : clip.rate ≡ rate
   pub one_start : gathered start_in (opening es) ≡ start ∷ []
   pub in_time : T (starts_in_time start.when (playing es))
-  pub no_offset : T (eq start.offset none)
+  pub no_offset : T (eq start.offset float_zero)
   pub no_duration : start.duration ≡ never
   pub few_switches : length (gathered switch_in (opening es)) ≤ 1
   pub few_stops : length (gathered stop_in (opening es)) ≤ 1

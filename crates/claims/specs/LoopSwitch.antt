@@ -3,7 +3,7 @@
 use Rattle.std.specs.Prelude.{◌≡◌, Bool, true, false, not, ◌&&◌, cond, List, [], ◌∷◌, ◌++◌, ℕ, ◌*◌, ◌<◌, ltb, T, replicate, Float}
 use Rattle.std.specs.Float.{binary32}
 use Rattle.std.specs.Float.Ieee.{fits, eq}
-use Rattle.seconds.specs.Seconds.{none, never}
+use Rattle.seconds.specs.Seconds.{float_zero, never}
 use Rattle.buffer.specs.Limits.{valid_rate}
 use Rattle.buffer.specs.Channels.{channel}
 use Rattle.player.specs.Record.{fresh_with}
@@ -53,7 +53,7 @@ pub record SwitchPremises (rate : Float) (es : List Event) : Type 0 where
   pub own_rate : clip.rate ≡ rate
   pub one_start : gathered start_in (opening es) ≡ start ∷ []
   pub in_time : T (starts_in_time start.when (playing es))
-  pub no_offset : T (eq start.offset none)
+  pub no_offset : T (eq start.offset float_zero)
   pub no_duration : start.duration ≡ never
   pub no_stop : gathered stop_in (opening es) ≡ []
   pub no_points : gathered point_in (opening es) ≡ []

@@ -3,7 +3,7 @@ use Rattle.std.specs.Prelude.{◌≡◌, Bool, true, false, List, [], ◌∷◌,
 use Rattle.std.specs.Float.{fin, binary32}
 use Rattle.std.specs.Float.Ieee.{fits}
 use Rattle.buffer.specs.Limits.{valid_rate}
-use Rattle.seconds.specs.Seconds.{none, one}
+use Rattle.seconds.specs.Seconds.{float_zero, one}
 use Rattle.player.specs.Record.{fresh_with}
 use Rattle.player.specs.declared.PlayerOptions.{PlayerOptions}
 use Rattle.player.specs.declared.ControlMessage.TheVariants.{Loop}
@@ -32,30 +32,30 @@ third = fin false 3 (negsuc 7)
 -- 600 frames: on and off twice within the clip. A block at the last one's time and a second clip are refused.
 abbrev pub within_calls : List Call
 within_calls =
-    start ∷ clip 600 ∷ switch true ∷ block_at 600 none ∷ switch false ∷ block_at 600 none ∷ block_at 600 tick ∷ switch true ∷ clip 600
+    start ∷ clip 600 ∷ switch true ∷ block_at 600 float_zero ∷ switch false ∷ block_at 600 float_zero ∷ block_at 600 tick ∷ switch true ∷ clip 600
     ∷ block_at 600 tock ∷ switch false ∷ block_at 600 third ∷ []
 
 -- 192 frames: off after a wrap in the second block, p = 64. The third is an exact fit, so the fourth ends it.
 abbrev pub wrapped_calls : List Call
-wrapped_calls = clip 192 ∷ start ∷ switch true ∷ block_at 192 none ∷ block_at 192 tick ∷ switch false ∷ block_at 192 tock ∷ block_at 192 third ∷ []
+wrapped_calls = clip 192 ∷ start ∷ switch true ∷ block_at 192 float_zero ∷ block_at 192 tick ∷ switch false ∷ block_at 192 tock ∷ block_at 192 third ∷ []
 
 -- 128 frames: an exact fit by the first block, unlooped, and a loop-off message before the next one
 abbrev pub fitting_calls : List Call
-fitting_calls = clip 128 ∷ start ∷ block_at 128 none ∷ switch false ∷ block_at 128 tick ∷ []
+fitting_calls = clip 128 ∷ start ∷ block_at 128 float_zero ∷ switch false ∷ block_at 128 tick ∷ []
 
 -- 100 frames: on after the end, and off again
 abbrev pub ended_calls : List Call
-ended_calls = clip 100 ∷ start ∷ block_at 100 none ∷ switch true ∷ block_at 100 tick ∷ switch false ∷ block_at 100 tock ∷ []
+ended_calls = clip 100 ∷ start ∷ block_at 100 float_zero ∷ switch true ∷ block_at 100 tick ∷ switch false ∷ block_at 100 tock ∷ []
 
 -- 128 frames: on, off and on after an exact fit, with no block to come
 abbrev pub last_calls : List Call
-last_calls = clip 128 ∷ start ∷ block_at 128 none ∷ switch true ∷ switch false ∷ switch true ∷ []
+last_calls = clip 128 ∷ start ∷ block_at 128 float_zero ∷ switch true ∷ switch false ∷ switch true ∷ []
 
 -- 128 frames: on, off and on before the first block, at first before the clip. That block, looped, comes to p = 128 without a wrap: off and on there, and the
 -- next one wraps, so p is 0. On and off, and the third is an exact fit; off twice, and the fourth ends it.
 abbrev pub many_calls : List Call
 many_calls =
-    switch true ∷ start ∷ switch false ∷ clip 128 ∷ switch true ∷ block_at 128 none ∷ switch false ∷ switch true ∷ block_at 128 tick
+    switch true ∷ start ∷ switch false ∷ clip 128 ∷ switch true ∷ block_at 128 float_zero ∷ switch false ∷ switch true ∷ block_at 128 tick
     ∷ switch true ∷ switch false ∷ block_at 128 tock ∷ switch false ∷ switch false ∷ block_at 128 third ∷ []
 
 -- the premises are met by the accepted calls of a player made with these options, so many, and after them this is the tape

@@ -4,7 +4,7 @@ use Rattle.std.specs.Float.{binary64}
 use Rattle.std.specs.Float.Ieee.{of_bits, sub, mul, le, eq, to_unsigned}
 use Rattle.rounding.specs.Rounding.{floor, widen, narrow}
 use Rattle.fused.specs.Fused.{fma}
-use Rattle.seconds.specs.Seconds.{none, one}
+use Rattle.seconds.specs.Seconds.{float_zero, one}
 use Rattle.tolerances.specs.Tolerances.{is_near}
 use Rattle.sub_sample.specs.declared.Settings.{Settings}
 use Rattle.sub_sample.specs.Infos.{entry}
@@ -17,13 +17,13 @@ loop_frame s =
     let start = mul binary64 s.loop_start.0 s.sample_rate in
     let end = mul binary64 s.loop_end.0 s.sample_rate in
     min
-    (cond (le none s.playback_rate) (cond (eq (floor binary64 start) start) (to_unsigned 64 start) (to_unsigned 64 start + 1)) (to_unsigned 64 end))
+    (cond (le float_zero s.playback_rate) (cond (eq (floor binary64 start) start) (to_unsigned 64 start) (to_unsigned 64 start + 1)) (to_unsigned 64 end))
     (s.buffer_length - 1)
 
 -- unlooped, it is continued from the last two frames
 unfoldable pub extrapolated : Settings → List ℕ → ℕ → Float → Float
 extrapolated s channel frame k =
-    cond (is_near s.tolerances k one || eqb frame 0) none
+    cond (is_near s.tolerances k one || eqb frame 0) float_zero
     (sub binary64 (mul binary64 (of_bits binary64 0x4000_0000_0000_0000) (widen (get_or channel frame 0))) (widen (get_or channel (frame - 1) 0)))
 
 -- the sample after frame number `frame`

@@ -7,7 +7,7 @@ use Rattle.buffer.specs.Refusals.{number}
 use Rattle.player.specs.declared.BlockReport.{BlockReport}
 use Rattle.buffer.specs.declared.refusals.Refusal.{Refusal}
 use Rattle.player.specs.declared.Player.{Player}
-use Rattle.seconds.specs.Seconds.{in_clip, none}
+use Rattle.seconds.specs.Seconds.{in_clip, float_zero}
 use Rattle.lent.specs.declared.Told.{Told}
 use Rattle.lent.specs.declared.Blocked.{Blocked}
 use Rattle.lent.specs.declared.Factored.{Factored}
@@ -25,7 +25,7 @@ after_block p (Ok r) = record {
 }
 after_block p (Err refused) = record {
   player = p;
-  answer = record { position = in_clip none; channels = 0; refusal = number refused; keep_alive = false; ended = false };
+  answer = record { position = in_clip float_zero; channels = 0; refusal = number refused; keep_alive = false; ended = false };
 }
 
 -- the factor of whole cents; or the refusal's number beside zero, a factor that no block accepts (`bad_rate`)

@@ -4,7 +4,7 @@ use Rattle.std.specs.Prelude.{◌≡◌, true, false, ℕ, ◌≤◌, ℤ, Float
 use Rattle.std.specs.Float.{binary32}
 use Rattle.std.specs.Float.Ieee.{of_bits}
 use Rattle.buffer.specs.declared.Shape.{Shape}
-use Rattle.seconds.specs.Seconds.{context, in_clip, none}
+use Rattle.seconds.specs.Seconds.{context, in_clip, float_zero}
 use Rattle.tolerances.specs.Tolerances.{defaults}
 use Rattle.player.specs.Record.{shape_of, loop_of, render_of}
 use Rattle.player.specs.Messages.{handled, buffered}
@@ -25,17 +25,17 @@ no_shape = shape_of 0 0 (of_bits binary32 0)
 abbrev pub nobody : Player
 nobody = record {
   sample_rate = of_bits binary32 0;
-  start_time = context none;
-  stop_time = context none;
-  offset = in_clip none;
-  duration = in_clip none;
-  loop_state = loop_of false none none;
-  render_state = render_of none false false none false true;
+  start_time = context float_zero;
+  stop_time = context float_zero;
+  offset = in_clip float_zero;
+  duration = in_clip float_zero;
+  loop_state = loop_of false float_zero float_zero;
+  render_state = render_of float_zero false false float_zero false true;
   has_start = true;
   has_buffer = true;
   shape = no_shape;
   has_block = false;
-  block_time = context none;
+  block_time = context float_zero;
   tolerances = defaults;
 }
 

@@ -14,7 +14,7 @@ use Rattle.rounding.proofs.Exact.{whole_exact}
 use Rattle.rounding.proofs.Operations.{div_at, div_near_any}
 use Rattle.buffer.specs.Limits.{valid_rate}
 use Rattle.buffer.specs.declared.refusals.Refusal.TheVariants as refused
-use Rattle.seconds.specs.Seconds.{none, one}
+use Rattle.seconds.specs.Seconds.{float_zero, one}
 use Rattle.player.specs.Block.{latest, bad_block_time, checked, rendered}
 use Rattle.player.specs.declared.Player.{Player}
 use Rattle.std.specs.Prelude.{Err}
@@ -80,7 +80,7 @@ module _ (r : Float) (a : Rate r) where
 -- ---- the block call
 bad_time_lem : (p : Player) (t : Float) → lt latest t ≡ true → bad_block_time p t ≡ true
 unfolding bad_block_time
-bad_time_lem p t h = rw h (go (not (finite t)) (lt t none) (p.has_block && le t p.block_time.0))
+bad_time_lem p t h = rw h (go (not (finite t)) (lt t float_zero) (p.has_block && le t p.block_time.0))
   where
     go : (a b d : Bool) → (a || b || true || d) ≡ true
     go true b d = refl

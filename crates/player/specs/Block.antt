@@ -10,7 +10,7 @@ use Rattle.buffer.specs.Answers.{answer_of, stored, after_checks}
 use Rattle.buffer.specs.Channels.{channel}
 use Rattle.buffer.specs.Limits.{valid_shape, duration}
 use Rattle.buffer.specs.declared.refusals.Refusal.TheVariants as refused
-use Rattle.seconds.specs.Seconds.{context, in_clip, never, none, one, dt, block_seconds, block_end}
+use Rattle.seconds.specs.Seconds.{context, in_clip, never, float_zero, one, dt, block_seconds, block_end}
 use Rattle.player.specs.Record.{render_of, moved}
 use Rattle.player.specs.Reports.{report_from}
 use Rattle.aligned.specs.Aligned.{first_frame, ends_within, aligned_sample, last_wrap, aligned_position}
@@ -59,9 +59,9 @@ start_at p time = cond (not p.render_state.started && lt p.start_time.0 time) ti
 -- Aligned: from a start at the block time with offset 0, until another rate, moved loop points, or a duration or a stop inside the block.
 unfoldable pub is_aligned : ℕ → Player → Float → Float → Bool
 is_aligned n p time computed =
-    (p.render_state.is_aligned || eq (start_at p time) time && eq p.offset.0 none)
+    (p.render_state.is_aligned || eq (start_at p time) time && eq p.offset.0 float_zero)
     && not (ne (sampling_ratio p) one || ne computed one)
-    && not (ne p.loop_state.start.0 none || ne p.loop_state.end.0 (clip_seconds p))
+    && not (ne p.loop_state.start.0 float_zero || ne p.loop_state.end.0 (clip_seconds p))
     && not (lt p.duration.0 (add binary64 p.render_state.buffer_time.0 (block_seconds n p.sample_rate))
     || lt p.stop_time.0 (block_end n time p.sample_rate))
 
@@ -71,7 +71,7 @@ has_ended n p time computed position elapsed =
     le p.stop_time.0 (block_end n time p.sample_rate)
     || le p.duration.0 elapsed
     || not p.loop_state.is_looping
-    && (lt none computed && le (clip_seconds p) position || lt computed none && lt position none)
+    && (lt float_zero computed && le (clip_seconds p) position || lt computed float_zero && lt position float_zero)
 
 -- ---- the aligned block
 unfoldable pub turns_over : ℕ → Player → Bool
@@ -99,7 +99,7 @@ aligned_plan n p time computed =
 -- ---- the sub-sample block
 -- a loop whose points are in order is itself; another is the whole clip
 unfoldable pub own_loop : Player → Bool
-own_loop p = le none p.loop_state.start.0 && lt none p.loop_state.end.0 && lt p.loop_state.start.0 p.loop_state.end.0
+own_loop p = le float_zero p.loop_state.start.0 && lt float_zero p.loop_state.end.0 && lt p.loop_state.start.0 p.loop_state.end.0
 
 unfoldable pub settings : Player → Float → Float → Float → Settings
 settings p time rate computed = record {
@@ -110,8 +110,8 @@ settings p time rate computed = record {
   playback_rate = rate;
   computed_playback_rate = computed;
   is_looping = p.loop_state.is_looping;
-  loop_start = in_clip (cond (p.loop_state.is_looping && own_loop p) p.loop_state.start.0 none);
-  loop_end = in_clip (cond p.loop_state.is_looping (cond (own_loop p) p.loop_state.end.0 (clip_seconds p)) none);
+  loop_start = in_clip (cond (p.loop_state.is_looping && own_loop p) p.loop_state.start.0 float_zero);
+  loop_end = in_clip (cond p.loop_state.is_looping (cond (own_loop p) p.loop_state.end.0 (clip_seconds p)) float_zero);
   buffer_length = p.shape.frames;
   buffer_duration = in_clip (clip_seconds p);
   sampling_ratio = sampling_ratio p;
@@ -161,7 +161,7 @@ latest = fin false 1 (pos 30)
 
 -- not finite, negative, over 2 ^ 30, or not above the last accepted block's
 unfoldable pub bad_block_time : Player → Float → Bool
-bad_block_time p time = not (finite time) || lt time none || lt latest time || p.has_block && le time p.block_time.0
+bad_block_time p time = not (finite time) || lt time float_zero || lt latest time || p.has_block && le time p.block_time.0
 
 -- a rate that is not finite; a factor that is a NaN or outside 2 ^ -64 .. 2 ^ 64
 unfoldable pub bad_rate : Float → Float → Bool

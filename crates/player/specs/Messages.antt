@@ -3,7 +3,7 @@
 use Rattle.std.specs.Prelude.{Bool, true, not, ◌||◌, cond, ℕ, eqb, Float, Result, Ok, Err}
 use Rattle.std.specs.Float.Ieee.{lt, le}
 use Rattle.std.specs.Float.Ieee.Scale.{finite}
-use Rattle.seconds.specs.Seconds.{context, in_clip, none}
+use Rattle.seconds.specs.Seconds.{context, in_clip, float_zero}
 use Rattle.player.specs.Record.{shape_of, loop_of, fresh, fresh_with, told, given}
 use Rattle.buffer.specs.Limits.{valid_rate, valid_shape, duration}
 use Rattle.buffer.specs.declared.refusals.Refusal.TheVariants as refused
@@ -26,11 +26,11 @@ made rate = cond (valid_rate rate) (Ok (fresh rate)) (Err refused.Rate)
 
 -- loop start is clamped to 0..duration
 unfoldable pub clamped_start : Float → Float → Float
-clamped_start at duration = cond (lt at none) none (cond (lt duration at) duration at)
+clamped_start at duration = cond (lt at float_zero) float_zero (cond (lt duration at) duration at)
 
 -- a loop end at or below 0, or above duration, becomes duration
 unfoldable pub clamped_end : Float → Float → Float
-clamped_end at duration = cond (le at none || lt duration at) duration at
+clamped_end at duration = cond (le at float_zero || lt duration at) duration at
 
 abbrev pub looped : Player → LoopState → Player
 looped p loop = told p p.has_start p.start_time p.stop_time p.offset p.duration loop
@@ -45,7 +45,7 @@ clamped p =
 
 -- not finite, or negative: −0 is neither
 unfoldable pub bad_time : Float → Bool
-bad_time x = not (finite x) || lt x none
+bad_time x = not (finite x) || lt x float_zero
 
 unfoldable pub on_start : Player → Float → Float → Float → Result Player Refusal
 on_start p when offset duration =

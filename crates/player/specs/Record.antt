@@ -3,7 +3,7 @@
 use Rattle.std.specs.Prelude.{Bool, true, false, ℕ, Float}
 use Rattle.std.specs.Float.{binary32}
 use Rattle.std.specs.Float.Ieee.{of_bits}
-use Rattle.seconds.specs.Seconds.{context, in_clip, never, none}
+use Rattle.seconds.specs.Seconds.{context, in_clip, never, float_zero}
 use Rattle.seconds.specs.declared.ContextSeconds.{ContextSeconds}
 use Rattle.seconds.specs.declared.BufferSeconds.{BufferSeconds}
 use Rattle.player.specs.declared.LoopState.{LoopState}
@@ -39,15 +39,15 @@ fresh_with rate options = record {
   sample_rate = rate;
   start_time = context never;
   stop_time = context never;
-  offset = in_clip none;
+  offset = in_clip float_zero;
   duration = in_clip never;
-  loop_state = loop_of false none none;
-  render_state = render_of none false false none false false;
+  loop_state = loop_of false float_zero float_zero;
+  render_state = render_of float_zero false false float_zero false false;
   has_start = false;
   has_buffer = false;
   shape = shape_of 0 0 (of_bits binary32 0);
   has_block = false;
-  block_time = context none;
+  block_time = context float_zero;
   tolerances = options.tolerances;
 }
 

@@ -2,7 +2,7 @@
 ghost use Rattle.std.specs.Prelude.{◌≡◌, ◌&&◌, ◌||◌};
 ghost use Rattle.std.specs.Float.{binary64};
 ghost use Rattle.std.specs.Float.Ieee.{add, lt, le, eq, ne};
-ghost use Rattle.seconds.specs.Seconds.{none, one, block_seconds, block_end};
+ghost use Rattle.seconds.specs.Seconds.{float_zero, one, block_seconds, block_end};
 ghost use Rattle.player.specs.Block.{clip_seconds, sampling_ratio, start_at, is_aligned, has_ended, turns_over, first_of};
 
 use super::Player;
@@ -38,7 +38,7 @@ impl Player {
 
     // Aligned before, or from this block on.
     fn can_align(self, time: f64) -> bool
-        ensures { result ≡ (self.render_state.is_aligned || eq (start_at self time) time && eq self.offset.0 none) }
+        ensures { result ≡ (self.render_state.is_aligned || eq (start_at self time) time && eq self.offset.0 float_zero) }
     {
         self.render_state.is_aligned || self.start_at(time) == time && self.offset.0 == 0.0
     }
@@ -52,7 +52,7 @@ impl Player {
 
     // Loop points other than the clip's start and end.
     fn has_moved_loop(self) -> bool
-        ensures { result ≡ (ne self.loop_state.start.0 none || ne self.loop_state.end.0 (clip_seconds self)) }
+        ensures { result ≡ (ne self.loop_state.start.0 float_zero || ne self.loop_state.end.0 (clip_seconds self)) }
     {
         self.loop_state.start.0 != 0.0 || self.loop_state.end.0 != self.clip_seconds()
     }
@@ -80,7 +80,7 @@ impl Player {
 
     // At or past the clip's end forwards, or below its start backwards.
     fn runs_out(self, computed: f64, position: f64) -> bool
-        ensures { result ≡ (lt none computed && le (clip_seconds self) position || lt computed none && lt position none) }
+        ensures { result ≡ (lt float_zero computed && le (clip_seconds self) position || lt computed float_zero && lt position float_zero) }
     {
         computed > 0.0 && position >= self.clip_seconds() || computed < 0.0 && position < 0.0
     }

@@ -1,6 +1,6 @@
 // What a sub-sample block starts from.
 ghost use Rattle.std.specs.Prelude.{◌≡◌, ◌&&◌, cond};
-ghost use Rattle.seconds.specs.Seconds.{none};
+ghost use Rattle.seconds.specs.Seconds.{float_zero};
 ghost use Rattle.player.specs.Block.{clip_seconds, own_loop, settings, first_head};
 
 use super::{LoopState, Player, RenderState};
@@ -19,7 +19,7 @@ impl Player {
 
     // The loop points that are played: the whole clip where they are not in order.
     fn actual_loop_start(self) -> f64
-        ensures { result ≡ cond (self.loop_state.is_looping && own_loop self) self.loop_state.start.0 none }
+        ensures { result ≡ cond (self.loop_state.is_looping && own_loop self) self.loop_state.start.0 float_zero }
     {
         if self.loop_state.is_looping && self.own_loop() {
             self.loop_state.start.0
@@ -29,7 +29,7 @@ impl Player {
     }
 
     fn actual_loop_end(self) -> f64
-        ensures { result ≡ cond self.loop_state.is_looping (cond (own_loop self) self.loop_state.end.0 (clip_seconds self)) none }
+        ensures { result ≡ cond self.loop_state.is_looping (cond (own_loop self) self.loop_state.end.0 (clip_seconds self)) float_zero }
     {
         if !self.loop_state.is_looping {
             0.0

@@ -3,7 +3,7 @@ use Rattle.std.specs.Prelude.{Bool, false, not, List, ℕ, zero, suc, length, Fl
 use Rattle.std.specs.Float.{binary64}
 use Rattle.std.specs.Float.Ieee.{mul, div}
 use Rattle.rounding.specs.Rounding.{whole}
-use Rattle.seconds.specs.Seconds.{none, never, one}
+use Rattle.seconds.specs.Seconds.{float_zero, never, one}
 use Rattle.player.specs.Messages.{made, buffered, handled}
 use Rattle.player.specs.Block.{rendered, output}
 use Rattle.player.specs.declared.Player.{Player}
@@ -29,7 +29,7 @@ sent (Err refusal) m = Err refusal
 
 -- the player that was given the clip, started at 0 with no duration and told whether to loop
 unfoldable pub begun : ℕ → ℕ → Bool → ℕ → Result Player Refusal
-begun channels frames looped len = sent (sent (given (made samples_in_second) channels frames len) (Start none none never)) (Loop looped)
+begun channels frames looped len = sent (sent (given (made samples_in_second) channels frames len) (Start float_zero float_zero never)) (Loop looped)
 
 -- ---- blocks, one after another
 -- block n is at n times 128, divided by 48,000: each step is rounded

@@ -16,8 +16,8 @@ in_clip x = record { 0 = x }
 abbrev pub never : Float
 never = from_bits binary64 0x7fef_ffff_ffff_ffff
 
-abbrev pub none : Float
-none = from_bits binary64 0
+abbrev pub float_zero : Float
+float_zero = from_bits binary64 0
 
 abbrev pub one : Float
 one = from_bits binary64 0x3ff0_0000_0000_0000

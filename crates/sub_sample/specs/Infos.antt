@@ -3,7 +3,7 @@
 use Rattle.std.specs.Prelude.{false, cond, ℕ, get_or, Float, Option, None, Some, is_some}
 use Rattle.std.specs.Float.{nan}
 use Rattle.lists.specs.Table.{table}
-use Rattle.seconds.specs.Seconds.{none}
+use Rattle.seconds.specs.Seconds.{float_zero}
 use Rattle.sub_sample.specs.SubSample.{info_of, info_of_sample, head_at}
 use Rattle.sub_sample.specs.declared.Settings.{Settings}
 use Rattle.sub_sample.specs.declared.Playhead.{Playhead}
@@ -20,7 +20,7 @@ frame_of None = 0
 frame_of (Some info) = info.prev_frame_index.0
 
 abbrev pub fraction_of : Option PlaybackInfo → Float
-fraction_of None = none
+fraction_of None = float_zero
 fraction_of (Some info) = info.k
 
 abbrev pub infos_of : ℕ → Settings → Playhead → Infos

@@ -5,7 +5,7 @@ use Rattle.std.specs.Float.{binary64}
 use Rattle.std.specs.Float.Ieee.{add, sub, mul, lt, le, to_unsigned}
 use Rattle.rounding.specs.Rounding.{whole, magnitude, floor, rem_euclid}
 use Rattle.tolerances.specs.Tolerances.{is_near, is_near_zero}
-use Rattle.seconds.specs.Seconds.{context, in_clip, none}
+use Rattle.seconds.specs.Seconds.{context, in_clip, float_zero}
 use Rattle.sub_sample.specs.declared.Settings.{Settings}
 use Rattle.sub_sample.specs.declared.Playhead.{Playhead}
 use Rattle.sub_sample.specs.declared.PlaybackInfo.{PlaybackInfo}
@@ -41,7 +41,7 @@ is_idle s now h = lt now h.start_time.0 || le s.stop_time.0 now || le s.duration
 
 -- `x.max(0.)` and `x.min(y)`
 abbrev pub at_least_zero : Float → Float
-at_least_zero x = cond (lt none x) x none
+at_least_zero x = cond (lt float_zero x) x float_zero
 
 abbrev pub at_most : Float → Float → Float
 at_most x y = cond (lt x y) x y
@@ -50,8 +50,8 @@ at_most x y = cond (lt x y) x y
 unfoldable pub start_offset : Settings → Float → Float
 start_offset s x =
     let o = at_most (at_least_zero x) s.buffer_duration.0 in
-    let forward = cond (s.is_looping && le none s.computed_playback_rate && lt s.loop_end.0 o) s.loop_end.0 o in
-    cond (s.is_looping && lt s.computed_playback_rate none && lt forward s.loop_start.0) s.loop_start.0 forward
+    let forward = cond (s.is_looping && le float_zero s.computed_playback_rate && lt s.loop_end.0 o) s.loop_end.0 o in
+    cond (s.is_looping && lt s.computed_playback_rate float_zero && lt forward s.loop_start.0) s.loop_start.0 forward
 
 unfoldable pub begun : Settings → Float → Playhead → Playhead
 begun s now h =
@@ -90,7 +90,7 @@ turned s h =
 -- ---- near zero, the position is zero
 unfoldable pub settled : Settings → Playhead → Playhead
 settled s h =
-    head_of h.start_time.0 h.offset.0 (cond (is_near_zero s.tolerances h.buffer_time.0) none h.buffer_time.0)
+    head_of h.start_time.0 h.offset.0 (cond (is_near_zero s.tolerances h.buffer_time.0) float_zero h.buffer_time.0)
     h.buffer_time_elapsed.0 h.started h.entered_loop
 
 -- ---- the frame and the fraction at a position within the clip
@@ -101,7 +101,7 @@ unfoldable pub info_at : Settings → Float → Option PlaybackInfo
 info_at s x =
     let floored = floor binary64 (playhead s x) in
     let frame = to_unsigned 64 floored in
-    cond (le none x && lt x s.buffer_duration.0 && ltb frame s.buffer_length)
+    cond (le float_zero x && lt x s.buffer_duration.0 && ltb frame s.buffer_length)
     (Some (info_of frame (sub binary64 (playhead s x) floored)))
     None
 

@@ -2,7 +2,7 @@
 ghost use Rattle.std.specs.Prelude.{◌≡◌, not, ◌&&◌, cond};
 ghost use Rattle.std.specs.Float.Ieee.{lt, le};
 ghost use Rattle.tolerances.specs.Tolerances.{is_near};
-ghost use Rattle.seconds.specs.Seconds.{none};
+ghost use Rattle.seconds.specs.Seconds.{float_zero};
 ghost use Rattle.sub_sample.specs.SubSample.{instant_of, snapped, is_idle, at_least_zero, at_most, start_offset, begun};
 ghost use Rattle.sub_sample.specs.SubSample.{snapped_to_loop, enters, wrapped, turned, settled, playhead, info_at, advanced, placed, stepped, info_of_sample};
 
@@ -77,7 +77,7 @@ impl Settings {
     // Forwards, an offset past the loop's end is its end.
     fn at_loop_end(self, offset: f64) -> f64
         ensures { result
-            ≡ cond (self.is_looping && le none self.computed_playback_rate && lt self.loop_end.0 offset)
+            ≡ cond (self.is_looping && le float_zero self.computed_playback_rate && lt self.loop_end.0 offset)
             self.loop_end.0 offset }
     {
         if self.is_looping && self.computed_playback_rate >= 0.0 && offset > self.loop_end.0 {
@@ -90,7 +90,7 @@ impl Settings {
     // Backwards, an offset before the loop's start is its start.
     fn at_loop_start(self, offset: f64) -> f64
         ensures { result
-            ≡ cond (self.is_looping && lt self.computed_playback_rate none && lt offset self.loop_start.0)
+            ≡ cond (self.is_looping && lt self.computed_playback_rate float_zero && lt offset self.loop_start.0)
             self.loop_start.0 offset }
     {
         if self.is_looping && self.computed_playback_rate < 0.0 && offset < self.loop_start.0 {

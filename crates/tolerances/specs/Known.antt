@@ -1,7 +1,7 @@
 -- The making of tolerances, and the tests that receive them, on known numbers. Definitions only.
 use Rattle.std.specs.Prelude.{◌≡◌, true, false, Float, Ok, Err, from_bits}
 use Rattle.std.specs.Float.{nan, binary32, binary64}
-use Rattle.seconds.specs.Seconds.{none, one}
+use Rattle.seconds.specs.Seconds.{float_zero, one}
 use Rattle.rounding.specs.Near.{near_tolerance, rate_tolerance}
 use Rattle.buffer.specs.declared.refusals.Refusal.TheVariants as refused
 use Rattle.tolerances.specs.Tolerances.{tolerances_of, defaults, made, is_near, is_near_zero, is_same_rate}
@@ -49,30 +49,30 @@ pub record KnownTolerances : Type 0 where
   -- the defaults are made
   pub by_default : made near_tolerance near_tolerance rate_tolerance ≡ Ok defaults
   -- 0, −0 and 1 are inside
-  pub zeros : made none minus_zero none ≡ Ok (tolerances_of none minus_zero none)
+  pub zeros : made float_zero minus_zero float_zero ≡ Ok (tolerances_of float_zero minus_zero float_zero)
   pub ones : made one one one ≡ Ok (tolerances_of one one one)
   -- each of the three is checked
-  pub near_above : made above_one none none ≡ Err refused.Tolerance
-  pub near_below : made below_zero none none ≡ Err refused.Tolerance
-  pub near_nan : made nan none none ≡ Err refused.Tolerance
-  pub near_infinite : made infinite none none ≡ Err refused.Tolerance
-  pub zero_above : made none above_one none ≡ Err refused.Tolerance
-  pub zero_below : made none below_zero none ≡ Err refused.Tolerance
-  pub zero_nan : made none nan none ≡ Err refused.Tolerance
-  pub zero_infinite : made none infinite none ≡ Err refused.Tolerance
-  pub relabel_above : made none none above_one_single ≡ Err refused.Tolerance
-  pub relabel_below : made none none below_zero_single ≡ Err refused.Tolerance
-  pub relabel_nan : made none none nan ≡ Err refused.Tolerance
-  pub relabel_infinite : made none none infinite ≡ Err refused.Tolerance
+  pub near_above : made above_one float_zero float_zero ≡ Err refused.Tolerance
+  pub near_below : made below_zero float_zero float_zero ≡ Err refused.Tolerance
+  pub near_nan : made nan float_zero float_zero ≡ Err refused.Tolerance
+  pub near_infinite : made infinite float_zero float_zero ≡ Err refused.Tolerance
+  pub zero_above : made float_zero above_one float_zero ≡ Err refused.Tolerance
+  pub zero_below : made float_zero below_zero float_zero ≡ Err refused.Tolerance
+  pub zero_nan : made float_zero nan float_zero ≡ Err refused.Tolerance
+  pub zero_infinite : made float_zero infinite float_zero ≡ Err refused.Tolerance
+  pub relabel_above : made float_zero float_zero above_one_single ≡ Err refused.Tolerance
+  pub relabel_below : made float_zero float_zero below_zero_single ≡ Err refused.Tolerance
+  pub relabel_nan : made float_zero float_zero nan ≡ Err refused.Tolerance
+  pub relabel_infinite : made float_zero float_zero infinite ≡ Err refused.Tolerance
   -- 1 and 2 are 1 apart, which is half of the larger: 'less than' the tolerance times the larger
   pub not_at : is_near (tolerances_of half one one) one two ≡ false
-  pub just_above : is_near (tolerances_of above_half none none) one two ≡ true
-  pub equal : is_near (tolerances_of none one one) two two ≡ true
+  pub just_above : is_near (tolerances_of above_half float_zero float_zero) one two ≡ true
+  pub equal : is_near (tolerances_of float_zero one one) two two ≡ true
   -- 'less than' the near-zero tolerance
   pub not_zero_at : is_near_zero (tolerances_of one half one) half ≡ false
-  pub zero_just_above : is_near_zero (tolerances_of none above_half none) half ≡ true
-  pub never_zero : is_near_zero (tolerances_of one none one) none ≡ false
+  pub zero_just_above : is_near_zero (tolerances_of float_zero above_half float_zero) half ≡ true
+  pub never_zero : is_near_zero (tolerances_of one float_zero one) float_zero ≡ false
   -- 'at most' the relabel distance
-  pub same_at : is_same_rate (tolerances_of none none half) rate rate_and_half ≡ true
+  pub same_at : is_same_rate (tolerances_of float_zero float_zero half) rate rate_and_half ≡ true
   pub other_below : is_same_rate (tolerances_of one one below_half) rate rate_and_half ≡ false
-  pub same_rate : is_same_rate (tolerances_of one one none) rate rate ≡ true
+  pub same_rate : is_same_rate (tolerances_of one one float_zero) rate rate ≡ true

@@ -2,7 +2,7 @@
 use Rattle.std.specs.Prelude.{Bool, not, ◌||◌, cond, Float, Result, Ok, Err}
 use Rattle.std.specs.Float.Ieee.{lt}
 use Rattle.std.specs.Float.Ieee.Scale.{finite}
-use Rattle.seconds.specs.Seconds.{none, one}
+use Rattle.seconds.specs.Seconds.{float_zero, one}
 use Rattle.rounding.specs.Near.{near_tolerance, rate_tolerance, near, near_zero, float_eq}
 use Rattle.buffer.specs.declared.refusals.Refusal.{Refusal}
 use Rattle.buffer.specs.declared.refusals.Refusal.TheVariants as refused
@@ -17,7 +17,7 @@ defaults = tolerances_of near_tolerance near_tolerance rate_tolerance
 
 -- 'not finite or is outside 0 to 1': −0, 0 and 1 are inside
 unfoldable pub bad_tolerance : Float → Bool
-bad_tolerance x = not (finite x) || lt x none || lt one x
+bad_tolerance x = not (finite x) || lt x float_zero || lt one x
 
 -- 'checks: 18 ..., when settings are made'
 unfoldable pub made : Float → Float → Float → Result Tolerances Refusal
