@@ -1,4 +1,4 @@
--- Document 01, 'Rounding', from bits: a * b + c, rounded once, over the values of IEEE 754 as the logic has them (`lib.Ieee`). Definitions only.
+-- docs/REFERENCE.md, 'Rounding': a * b + c, rounded once, over the values of IEEE 754 as the logic has them (`lib.Ieee`). Definitions only.
 -- `sum f s a t b c` of `lib.Ieee` is a / c, with the sign s, and b / c, with the sign t, added and rounded to the format f.
 -- `fin s m e` is m * 2 ^ e, which is m * up e / down e.
 use Rattle.std.specs.Prelude.{ℕ, ◌*◌, Bool, cond, ◌==◌, Float}
@@ -18,6 +18,7 @@ inf_plus s nan = nan
 inf_plus s (inf t) = cond (beq s t) (inf s) nan
 inf_plus s (fin t n d) = inf s
 
+-- a * b + c, rounded once; the NaN where a product or a sum of infinities has no value
 unfoldable pub fma : Format → Float → Float → Float → Float
 fma f nan b c = nan
 fma f (inf s) nan c = nan

@@ -1,4 +1,4 @@
--- Document 01, 'Known frames': the starred one about a * b + c rounded once, as a claim about its definition.
+-- docs/REFERENCE.md, 'Known frames': the one about a * b + c rounded once, as a claim about its definition.
 use Rattle.std.specs.Prelude.{◌≡◌, ◌+◌, ◌-◌, ◌^◌}
 use Rattle.std.specs.Float.{binary64}
 use Rattle.rounding.specs.Known.{over, minus_whole}

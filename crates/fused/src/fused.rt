@@ -1,9 +1,9 @@
-// a times b plus c, rounded once.
-//
-// In units of 2^-2148, the square of the smallest value, the product and c are whole numbers: the
-// product's digits at the place x, and c's at the place y. Both are brought to a common place j, in
-// 128 digits, where at most one of them loses digits, and then only digits far below the last one
-// that the result keeps: a sticky digit stands for them.
+//! a times b plus c, rounded once.
+//!
+//! In units of 2^-2148, the square of the smallest value, the product and c are whole numbers: the
+//! product's digits at the place x, and c's at the place y. Both are brought to a common place j, in
+//! 128 digits, where at most one of them loses digits, and then only digits far below the last one
+//! that the result keeps: a sticky digit stands for them.
 ghost use Rattle.std.specs.Prelude.{◌≡◌, ◌+◌, ◌*◌, ◌^◌, ◌<◌, ◌≤◌, false, to_bits};
 ghost use Rattle.std.specs.Float.{binary64};
 ghost use Rattle.std.specs.Float.Ieee.{round, sum, unlike};
@@ -118,7 +118,8 @@ fn fused(a: u64, b: u64, c: u64) -> u64
     combined(is_negative(a) != is_negative(b), m, is_negative(c), n, j)
 }
 
-// a * b + c, rounded once. Where the product is a NaN, an infinity or a zero, it is exact.
+/// a * b + c, rounded once to nearest even. Where the product is a NaN, an infinity or a zero, it is exact,
+/// and the operators give the sum.
 #[tactic(auto, using(crate::proofs::Finite::of_finite, crate::proofs::Product::irregular, crate::proofs::Product::not_finite, crate::proofs::Product::sum_no_nan, crate::proofs::Product::sum_fits, rounding::proofs::Read::no_nan_bits), unfolding(rounding::specs::Rounding::regular))]
 pub fn fma(a: f64, b: f64, c: f64) -> f64
     ensures { result ≡ fma binary64 a b c }

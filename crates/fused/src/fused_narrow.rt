@@ -1,9 +1,9 @@
-// a times b plus c, rounded once, and then narrowed to f32.
-//
-// Where the product is at most 32 times the sum y by the operators, which is rounded twice, y is
-// close to the sum rounded once: their patterns are at most 512 apart. So both narrow to the same
-// f32, unless a tie of two f32 values lies as close to y. Where one does, and b is a widened f32,
-// the last 64 digits of the exact sum tell how far from the tie it is.
+//! a times b plus c, rounded once, and then narrowed to f32.
+//!
+//! Where the product is at most 32 times the sum y by the operators, which is rounded twice, y is
+//! close to the sum rounded once: their patterns are at most 512 apart. So both narrow to the same
+//! f32, unless a tie of two f32 values lies as close to y. Where one does, and b is a widened f32,
+//! the last 64 digits of the exact sum tell how far from the tie it is.
 ghost use Rattle.std.specs.Prelude.{◌≡◌, ◌+◌, ◌*◌, ◌/◌, ◌%◌, ◌^◌, ◌<◌, ◌≤◌, ◌↔◌, IfSome, IsTrue, if◌then◌else◌};
 ghost use Rattle.std.specs.Float.{binary64};
 ghost use Rattle.std.specs.Float.Ieee.{unlike};
@@ -51,8 +51,7 @@ fn opposed(a: u64, b: u64) -> bool
     is_negative(a) != is_negative(b)
 }
 
-// The last 64 digits of v and x, added, or of v without x. The bool is a term's sign, which only the
-// sum tells: two functions would need this `if` at each call.
+// The last 64 digits of v and x, added, or of v without x where x is taken away.
 fn joined(v: u64, x: u64, taken: bool) -> u64
     ensures { (result + (if taken then x else 0)) % 2 ^ 64 ≡ (v + (if taken then 0 else x)) % 2 ^ 64 }
 {
@@ -66,7 +65,7 @@ fn joined(v: u64, x: u64, taken: bool) -> u64
 // The f32 pattern of the sum of m and c, of each of which only the last 64 digits are given. They
 // tell how far the sum is from the tie beside it, for it is near the pattern `size`: `above` is that
 // distance and half of an f64's last digit. The sum as an f64 has its guard bit set where it is not
-// below the tie, and its sticky bit where it is not on it. A call, as `by_fma` below.
+// below the tie, and its sticky bit where it is not on it. A call of its own, since it is rare.
 #[tactic(auto, using(rounding::proofs::Raised::raise_le, crate::proofs::Side::sided))]
 #[inline(never)]
 fn beside(size: u64, j: u64, p: bool, q: bool, m: u64, c: u64) -> u64
@@ -105,7 +104,7 @@ fn full_digits(b: u64) -> u64
 }
 
 // Whether b, whose field is e, has at most 24 digits and is not too large, and the places i and j
-// are near. With b's digits asked for last, `fma_narrow` took 3 % longer.
+// are near.
 fn in_reach(b: u64, e: u64, i: u64, j: u64) -> bool
     ensures { IsTrue result → Reach b e i j }
 {
@@ -124,7 +123,7 @@ fn near_tie(a: u64, b: u64, c: u64, size: u64, p: bool, q: bool) -> Option<u64>
     }
     let e = field_of(b);
     let x = field_of(a) + e + 27;
-    // `checked_sub` was slower near a tie: 17.4 ns a call for 15.1. `in_reach` refuses what wraps.
+    // `in_reach` refuses what wraps.
     let i = (field_of(c) + 1073).wrapping_sub(x);
     let j = (size / 0x10_0000_0000_0000 + 1073).wrapping_sub(x);
     if !in_reach(b, e, i, j) {
@@ -158,7 +157,6 @@ fn by_operators(a: f64, b: f64, c: f64) -> Option<u32>
     if product % 0x8000_0000_0000_0000 > size + 0x50_0000_0000_0000 {
         return None;
     }
-    // One `signed` after `untied(size).or_else(..)?` was slower: 5.4 ns a call for 4.5.
     if let Some(pattern) = untied(size) {
         return Some(signed(bits, pattern));
     }
@@ -167,8 +165,7 @@ fn by_operators(a: f64, b: f64, c: f64) -> Option<u32>
     Some(signed(bits, pattern))
 }
 
-// The f32 pattern of a * b + c, rounded once by `fma`. This and `beside` are calls, since both are rare: with
-// their code in it `fma_narrow` took 7 to 15 % longer, called alone through C, and a sub-sample block 1 to 5 %.
+// The f32 pattern of a * b + c, rounded once by `fma`. A call of its own, since it is rare.
 #[inline(never)]
 fn by_fma(a: f64, b: f64, c: f64) -> u32
     ensures { result ≡ narrow (fma binary64 a b c) }
@@ -176,7 +173,7 @@ fn by_fma(a: f64, b: f64, c: f64) -> u32
     narrow(fma(a, b, c))
 }
 
-// The f32 pattern of a * b + c rounded once.
+/// The f32 pattern of a * b + c rounded once to an f64, to nearest even, and then to an f32.
 pub fn fma_narrow(a: f64, b: f64, c: f64) -> u32
     ensures { result ≡ narrow (fma binary64 a b c) }
 {

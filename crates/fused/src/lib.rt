@@ -1,6 +1,6 @@
-// a times b plus c, rounded once, and the same narrowed to `f32`. Each contract equates the result
-// with the definition of `specs/Fused.antt`, narrowed as `rounding` defines it. Document 01 asks for it
-// from bits, so it isn't std's `mul_add`.
+//! a times b plus c, rounded once, and the same narrowed to `f32` (docs/REFERENCE.md, 'Rounding'). Each
+//! contract equates the result with the definition of `specs/Fused.antt`, narrowed as `rounding` defines
+//! it. It is worked out from bits, and calls no `mul_add`, so that it is the same on each machine.
 #![tactic(auto)]
 
 mod fused;

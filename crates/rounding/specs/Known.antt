@@ -1,4 +1,4 @@
--- Document 01, 'Known frames': the starred ones about rounding but for that of the fused step (the crate `fused`), and the figures of 'Rounding',
+-- docs/REFERENCE.md, 'Known frames': those about rounding, but for that of a * b + c rounded once (the crate `fused`), and the tolerances,
 -- as one claim about the definitions.
 use Rattle.std.specs.Prelude.{◌≡◌, ℕ, ◌+◌, ◌-◌, ◌^◌, true, false, pos, negsuc, Float}
 use Rattle.std.specs.Float.{nan, fin, binary32, binary64}

@@ -1,4 +1,4 @@
--- Document 01, 'What a caller may rely on', 4: facts about rounding, for a format f as a parameter, f32 or f64.
+-- docs/REFERENCE.md, 'Rounding': the laws of rounding, for a format f as a parameter, f32 or f64.
 -- A unit is the format's smallest value, 2 ^ -low f.
 -- `HasValue x s a c` (lib.Ieee.Exact) says that x is the fraction a / c, negative where s is true.
 use Rattle.std.specs.Prelude.{◌≡◌, ℕ, ◌+◌, ◌-◌, ◌*◌, ◌%◌, ◌^◌, ◌<◌, ◌≤◌, Bool, false, T, pos}

@@ -1,4 +1,4 @@
--- Document 01, 'Rounding', the stand-ins: near, near zero, `float_eq`, each with its tolerance as a parameter. Definitions only.
+-- docs/REFERENCE.md, 'Near tests and tolerances': near, near zero and `float_eq`, each with its tolerance as a parameter. Definitions only.
 use Rattle.std.specs.Prelude.{Bool, cond, ◌||◌, from_bits, Float}
 use Rattle.std.specs.Float.{binary32, binary64}
 use Rattle.std.specs.Float.Ieee.{sub, mul, lt, le, eq}
@@ -12,6 +12,7 @@ near_tolerance = from_bits binary64 0x3e50_0000_0000_0000
 abbrev pub rate_tolerance : Float
 rate_tolerance = from_bits binary32 0x3dcc_cccd
 
+-- b where a is below it, and a otherwise: a where one of them is a NaN
 unfoldable pub larger : Float → Float → Float
 larger a b = cond (lt a b) b a
 
@@ -19,6 +20,7 @@ larger a b = cond (lt a b) b a
 unfoldable pub near : Float → Float → Float → Bool
 near a b tolerance = eq a b || lt (magnitude (sub binary64 a b)) (mul binary64 tolerance (larger (magnitude a) (magnitude b)))
 
+-- less than the tolerance away from zero
 unfoldable pub near_zero : Float → Float → Bool
 near_zero a tolerance = lt (magnitude a) tolerance
 

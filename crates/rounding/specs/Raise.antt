@@ -1,4 +1,4 @@
--- Document 02, 2.3, 'Rounding up by arithmetic': digits are dropped, and 0 or 1 is added to what is kept.
+-- docs/REFERENCE.md, 'Rounding': the last digits of a number are dropped, and 0 or 1, the raise, is added to what is kept.
 use Rattle.std.specs.Prelude.{◌≡◌, ℕ, zero, suc, ◌+◌, ◌*◌, ◌/◌, ◌%◌, ◌^◌, Bool, true, false, cond, not, ◌&&◌, ◌||◌, ◌⊎◌, ◌==◌}
 use Rattle.std.specs.Float.Ieee.Nearest.{closest}
 use Rattle.rounding.specs.Laws.{Within}

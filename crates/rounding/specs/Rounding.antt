@@ -1,4 +1,4 @@
--- Document 01, 'Rounding', from bits: what the functions of this crate compute, over the values of IEEE 754 as the logic has them (`lib.Ieee`).
+-- docs/REFERENCE.md, 'Rounding': what the functions of this crate compute, over the values of IEEE 754 as the logic has them (`lib.Ieee`).
 -- Definitions only; that of a * b + c, rounded once, stands in the crate `fused`.
 -- `round f s a c` of `lib.Ieee` is the value of the format f nearest to a / c, a tie to the one whose last digit is even, with the sign s.
 -- `fin s m e` is m * 2 ^ e, which is m * up e / down e.

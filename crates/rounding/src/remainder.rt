@@ -1,5 +1,5 @@
-// The remainder, Rust's `%`, and the Euclidean one. `%` itself would be a call of C's `fmod`, which
-// the toolchain links by a name that a C library before glibc 2.38 lacks.
+//! The remainder, Rust's `%`, and the Euclidean one. `%` itself would be a call of C's `fmod`, which
+//! the toolchain links by a name that a C library before glibc 2.38 lacks.
 ghost use Rattle.std.specs.Prelude.{◌≡◌, ◌*◌, ◌<◌, ◌≤◌, true, false};
 ghost use Rattle.std.specs.Float.{binary64};
 ghost use Rattle.std.specs.Float.Ieee.{rem, lt};
@@ -46,7 +46,8 @@ fn reduced(a: f64, b: f64) -> f64
     rest
 }
 
-// a less the multiple of b that a / b cuts to, with the sign of a.
+/// The remainder of a by b, exact and with the sign of a: a less the multiple of b that a / b cuts to. It
+/// is the NaN where a is infinite, b is zero, or one of them is the NaN.
 #[tactic(auto, using(crate::proofs::Sizes::by_size, crate::proofs::Sizes::none_by_dividend, crate::proofs::Sizes::none_by_divisor, crate::proofs::Sizes::size_positive, crate::proofs::Sizes::is_negative, crate::proofs::Sizes::is_positive))]
 pub fn rem(a: f64, b: f64) -> f64
     ensures { result ≡ rem binary64 a b }
@@ -63,7 +64,8 @@ pub fn rem(a: f64, b: f64) -> f64
     if a < 0.0 { -left } else { left }
 }
 
-// The remainder of a by b that is not negative. The sum is rounded, so it can come out as |b|.
+/// The remainder of a by b that is not below zero: of a negative one, the sum with |b|. The sum is
+/// rounded, so it can come out as |b|.
 #[tactic(auto, unfolding(crate::specs::Rounding::rem_euclid))]
 pub fn rem_euclid(a: f64, b: f64) -> f64
     ensures { result ≡ rem_euclid binary64 a b }

@@ -1,5 +1,6 @@
-// Whole numbers: floor, ceil, round half away from zero, and truncation. Each works on the digits
-// of x's pattern: x is digits / 2^s, with s = 1074 - place, and is whole where s would be 0 or less.
+//! Whole numbers: floor, ceil, round half away from zero, and truncation (docs/REFERENCE.md, 'Rounding').
+//! Each works on the digits of x's pattern: x is digits / 2^s, with s = 1074 - place, and is whole where s
+//! would be 0 or less.
 ghost use Rattle.std.specs.Prelude.{◌≡◌, ◌+◌, ◌-◌, ◌/◌, ◌^◌, ◌<◌, ◌≤◌};
 ghost use Rattle.std.specs.Float.{binary64};
 ghost use Rattle.rounding.specs.Rounding.{floor, ceil, round_away, truncate, cut, lifted, half_up};
@@ -37,7 +38,7 @@ fn half_up(d: u64, s: u64) -> u64
     (cut(d, s - 1) + 1) / 2
 }
 
-// The largest whole number that is not above x. A zero keeps its sign.
+/// The largest whole number that is not above x, with x's sign. An infinity and the NaN give themselves.
 #[tactic(auto, using(crate::proofs::Read::told_no_nan, crate::proofs::Read::told_nan, crate::proofs::Wholes::cut_le, crate::proofs::Wholes::lifted_le_self, crate::proofs::Wholes::below, crate::proofs::Wholes::cast_fits, crate::proofs::Wholes::floor_above, crate::proofs::Wholes::floor_below, crate::proofs::Wholes::floor_kept, crate::proofs::Wholes::floor_nan))]
 pub fn floor(x: f64) -> f64
     ensures { result ≡ floor binary64 x }
@@ -58,8 +59,8 @@ pub fn floor(x: f64) -> f64
     }
 }
 
-// `floor`, and its result as a number, as `truncate` gives it: from the digits at once where x is not
-// negative and below 2^52. A sub-sample block asks for both for each sample.
+/// `floor`, and its result as a number, as `truncate` gives it: from the digits at once where x is not
+/// negative and below 2^52.
 #[tactic(auto, using(crate::proofs::Read::told_no_nan, crate::proofs::Wholes::cut_le, crate::proofs::Wholes::below, crate::proofs::Wholes::cast_fits, crate::proofs::Wholes::floor_above, crate::proofs::Floored::counted_above))]
 pub fn floor_counted(x: f64) -> (f64, u64)
     ensures { (result.0 ≡ floor binary64 x) × (result.1 ≡ truncate (floor binary64 x)) }
@@ -76,7 +77,8 @@ pub fn floor_counted(x: f64) -> (f64, u64)
     (whole, truncate(whole))
 }
 
-// The smallest whole number that is not below x. A result of 0 has x's sign.
+/// The smallest whole number that is not below x, with x's sign: of -0.5 it is -0. An infinity and the NaN
+/// give themselves.
 #[tactic(auto, using(crate::proofs::Wholes::ceil_floor))]
 pub fn ceil(x: f64) -> f64
     ensures { result ≡ ceil binary64 x }
@@ -84,7 +86,8 @@ pub fn ceil(x: f64) -> f64
     -floor(-x)
 }
 
-// The whole number nearest to x, a half going away from zero.
+/// The whole number nearest to x, a half going away from zero, with x's sign. An infinity and the NaN give
+/// themselves.
 #[tactic(auto, using(crate::proofs::Read::told_no_nan, crate::proofs::Read::told_nan, crate::proofs::Wholes::half_le, crate::proofs::Wholes::below, crate::proofs::Wholes::cast_fits, crate::proofs::Wholes::away_above, crate::proofs::Wholes::away_below, crate::proofs::Wholes::away_kept, crate::proofs::Wholes::away_nan))]
 pub fn round_away(x: f64) -> f64
     ensures { result ≡ round_away binary64 x }
@@ -101,8 +104,8 @@ pub fn round_away(x: f64) -> f64
     if b < 0x8000_0000_0000_0000 { n } else { -n }
 }
 
-// x without its fraction: 0 for what is negative and for a NaN, and 2^64 - 1 from 2^64 on. `as` asks
-// that x lies between.
+/// x without its fraction: 0 for what is negative and for a NaN, and 2^64 - 1 from 2^64 on. `as` asks
+/// that x lies between.
 pub fn truncate(x: f64) -> u64
     ensures { result ≡ truncate x }
 {

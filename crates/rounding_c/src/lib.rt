@@ -1,4 +1,4 @@
-// The functions of `rounding` and `fused` for C, to be measured beside C's own (tools/bench_rounding).
+//! The functions of `rounding` and `fused` for C, to be measured beside C's own (tools/bench_rounding).
 #![tactic(auto)]
 
 ghost use Rattle.std.specs.Prelude.{◌≡◌};
@@ -6,6 +6,7 @@ ghost use Rattle.std.specs.Float.{binary64};
 ghost use Rattle.fused.specs.Fused.{fma};
 ghost use Rattle.rounding.specs.Rounding.{floor, narrow, truncate};
 
+/// a * b + c rounded once.
 #[unsafe(no_mangle)]
 pub extern "C" fn rounding_fma(a: f64, b: f64, c: f64) -> f64
     ensures { result ≡ fma binary64 a b c }
@@ -13,6 +14,7 @@ pub extern "C" fn rounding_fma(a: f64, b: f64, c: f64) -> f64
     fused::fma(a, b, c)
 }
 
+/// The f32 pattern nearest to x.
 #[unsafe(no_mangle)]
 pub extern "C" fn rounding_narrow(x: f64) -> u32
     ensures { result ≡ narrow x }
@@ -20,6 +22,7 @@ pub extern "C" fn rounding_narrow(x: f64) -> u32
     rounding::narrow(x)
 }
 
+/// The f32 pattern of a * b + c rounded once.
 #[unsafe(no_mangle)]
 pub extern "C" fn rounding_fma_narrow(a: f64, b: f64, c: f64) -> u32
     ensures { result ≡ narrow (fma binary64 a b c) }
@@ -27,6 +30,7 @@ pub extern "C" fn rounding_fma_narrow(a: f64, b: f64, c: f64) -> u32
     fused::fma_narrow(a, b, c)
 }
 
+/// The largest whole number that is not above x.
 #[unsafe(no_mangle)]
 pub extern "C" fn rounding_floor(x: f64) -> f64
     ensures { result ≡ floor binary64 x }
@@ -34,6 +38,7 @@ pub extern "C" fn rounding_floor(x: f64) -> f64
     rounding::floor(x)
 }
 
+/// x without its fraction.
 #[unsafe(no_mangle)]
 pub extern "C" fn rounding_truncate(x: f64) -> u64
     ensures { result ≡ truncate x }

@@ -1,7 +1,7 @@
-// Runs recorded vectors of `rounding` and `fused`: what a processor answered
-// (tools/rounding_vectors makes them). A line of standard input has 70 bytes: the operation, a
-// hex digit; three operands and the answer, 16 hex digits each; a space before each, and the
-// line's end.
+//! Runs recorded vectors of `rounding` and `fused`: what a processor answered
+//! (tools/rounding_vectors makes them). A line of standard input has 70 bytes: the operation, a
+//! hex digit; three operands and the answer, 16 hex digits each; a space before each, and the
+//! line's end.
 #![tactic(auto)]
 
 ghost use Rattle.std.specs.Prelude.{◌<◌};

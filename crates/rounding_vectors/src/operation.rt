@@ -1,4 +1,4 @@
-// What a line asks for.
+//! What a line asks for.
 use rounding::BinaryFloat;
 use std::fmt;
 
@@ -27,7 +27,7 @@ fn single(bits: u64) -> f32 {
 }
 
 impl Operation {
-    // All of them, in the order of their codes and of the report.
+    /// All of them, in the order of their codes and of the report.
     pub const ALL: [Operation; 11] = [
         Operation::Fma,
         Operation::Narrow,

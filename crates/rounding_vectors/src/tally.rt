@@ -1,4 +1,4 @@
-// The lines of one operation: how many were run, and how many answers differed.
+//! The lines of one operation: how many were run, and how many answers differed.
 use std::fmt;
 
 #[derive(Clone, Copy, Debug, Default)]
