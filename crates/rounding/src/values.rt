@@ -11,6 +11,7 @@ pub fn whole(n: usize) -> f64
 }
 
 /// Whether x is neither a NaN nor an infinity.
+#[tactic(auto, using(crate::proofs::Regular::below_infinity, crate::proofs::Regular::not_below_infinity))]
 pub fn is_finite(x: f64) -> bool
     ensures { result ≡ finite x }
 {
@@ -18,6 +19,7 @@ pub fn is_finite(x: f64) -> bool
 }
 
 /// Whether x is finite and not zero.
+#[tactic(auto, using(crate::proofs::Regular::not_zero, crate::proofs::Regular::not_finite))]
 pub fn is_regular(x: f64) -> bool
     ensures { result ≡ regular x }
 {
