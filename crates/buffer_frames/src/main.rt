@@ -175,30 +175,27 @@ fn run_conversions(rt: &impl Print) -> io::Result<()> {
     print_made(rt, held, &six)
 }
 
-// The frames 0 and 3 again, with other relabel distances: with 0, to 48,000.09375 makes three frames; with 1/2, to 48,000.5
-// relabels, and to 48,000.50390625 makes three frames.
-fn run_relabels(rt: &impl Print) -> io::Result<()> {
-    let samples = [0u32, 0x4040_0000];
+// The frames 0 and 3 at 48,000, converted with another relabel distance.
+fn convert_within(relabel: f32, rate: f32, out: &mut [u32]) -> Result<Shape, Refusal> {
     let at_48000 = Shape {
         channels: 1,
         frames: 2,
         rate: 48000.0,
     };
-    let none = Tolerances {
-        relabel: 0.0,
-        ..Tolerances::default()
-    };
-    let half = Tolerances {
-        relabel: 0.5,
-        ..none
-    };
+    let tolerances = Tolerances::new(0.0, 0.0, relabel)?;
+    reshape::convert_with(at_48000, &[0, 0x4040_0000], rate, tolerances, out)
+}
+
+// The frames 0 and 3 again, with other relabel distances: with 0, to 48,000.09375 makes three
+// frames; with 1/2, to 48,000.5 relabels, and to 48,000.50390625 makes three frames.
+fn run_relabels(rt: &impl Print) -> io::Result<()> {
     let mut two = [0u32; 2];
     let mut three = [0u32; 3];
-    let converted = reshape::convert_with(at_48000, &samples, 48000.09375, none, &mut three);
+    let converted = convert_within(0.0, 48000.09375, &mut three);
     print_made(rt, converted, &three)?;
-    let relabelled = reshape::convert_with(at_48000, &samples, 48000.5, half, &mut two);
+    let relabelled = convert_within(0.5, 48000.5, &mut two);
     print_made(rt, relabelled, &two)?;
-    let beyond = reshape::convert_with(at_48000, &samples, 48000.50390625, half, &mut three);
+    let beyond = convert_within(0.5, 48000.50390625, &mut three);
     print_made(rt, beyond, &three)
 }
 

@@ -126,11 +126,7 @@ impl From<Result<Tolerances, Refusal>> for Tolerated {
                 refusal: 0,
             },
             Err(refusal) => Self {
-                tolerances: Tolerances {
-                    near: 0.0,
-                    near_zero: 0.0,
-                    relabel: 0.0,
-                },
+                tolerances: Tolerances::zeros(),
                 refusal: refusal.number(),
             },
         }

@@ -10,7 +10,8 @@ pub known : KnownTolerances
 unfolding made bad_tolerance larger near near_zero float_eq magnitude lt le eq sub mul neg sum round of_bits
 known = record {
   by_default = refl;
-  zeros = refl;
+  by_zeros = refl;
+  some_zeros = refl;
   ones = refl;
   near_above = refl;
   near_below = refl;

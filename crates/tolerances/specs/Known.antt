@@ -1,10 +1,10 @@
--- The making of tolerances, and the tests that receive them, on known numbers. Definitions only.
+-- The making of tolerances, and the tests that receive them, on known numbers (docs/REFERENCE.md, 'Near tests and tolerances').
 use Rattle.std.specs.Prelude.{◌≡◌, true, false, Float, Ok, Err, from_bits}
 use Rattle.std.specs.Float.{nan, binary32, binary64}
 use Rattle.seconds.specs.Seconds.{float_zero, one}
 use Rattle.rounding.specs.Near.{near_tolerance, rate_tolerance}
 use Rattle.buffer.specs.declared.refusals.Refusal.TheVariants as refused
-use Rattle.tolerances.specs.Tolerances.{tolerances_of, defaults, made, is_near, is_near_zero, is_same_rate}
+use Rattle.tolerances.specs.Tolerances.{tolerances_of, defaults, zeros, made, is_near, is_near_zero, is_same_rate}
 
 -- −0; the least number above 1, and the greatest below 0, as f64 and as f32
 abbrev minus_zero : Float
@@ -48,8 +48,10 @@ below_half = from_bits binary32 0x3eff_ffff
 pub record KnownTolerances : Type 0 where
   -- the defaults are made
   pub by_default : made near_tolerance near_tolerance rate_tolerance ≡ Ok defaults
+  -- so are three zeros
+  pub by_zeros : made float_zero float_zero float_zero ≡ Ok zeros
   -- 0, −0 and 1 are inside
-  pub zeros : made float_zero minus_zero float_zero ≡ Ok (tolerances_of float_zero minus_zero float_zero)
+  pub some_zeros : made float_zero minus_zero float_zero ≡ Ok (tolerances_of float_zero minus_zero float_zero)
   pub ones : made one one one ≡ Ok (tolerances_of one one one)
   -- each of the three is checked
   pub near_above : made above_one float_zero float_zero ≡ Err refused.Tolerance

@@ -1,3 +1,3 @@
--- The tolerances as settings, and what is known of them.
+-- The tolerances as a record, and what its making and its tests answer on known numbers.
 pub mod Tolerances
 pub mod Known

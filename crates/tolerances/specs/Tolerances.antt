@@ -1,4 +1,4 @@
--- The tolerances as settings (document 02, 2.7): a record, its making call, its defaults, and the tests that receive it. Definitions only.
+-- The tolerances as a record: its making, its defaults, and the tests that receive it (docs/REFERENCE.md, 'Near tests and tolerances').
 use Rattle.std.specs.Prelude.{Bool, not, ◌||◌, cond, Float, Result, Ok, Err}
 use Rattle.std.specs.Float.Ieee.{lt}
 use Rattle.std.specs.Float.Ieee.Scale.{finite}
@@ -8,23 +8,28 @@ use Rattle.buffer.specs.declared.refusals.Refusal.{Refusal}
 use Rattle.buffer.specs.declared.refusals.Refusal.TheVariants as refused
 use Rattle.tolerances.specs.declared.Tolerances.{Tolerances}
 
+-- the near tolerance, the near-zero tolerance in seconds of the clip, and the relabel distance in frames a second, which is an f32
 abbrev pub tolerances_of : Float → Float → Float → Tolerances
 tolerances_of near near_zero relabel = record { near = near; near_zero = near_zero; relabel = relabel }
 
--- 'Defaults are 2^-26, 2^-26 and 0.1 as f32'
+-- 2 ^ -26, 2 ^ -26 and 0.1 as f32
 abbrev pub defaults : Tolerances
 defaults = tolerances_of near_tolerance near_tolerance rate_tolerance
 
--- 'not finite or is outside 0 to 1': −0, 0 and 1 are inside
+-- nothing but equal numbers is near
+abbrev pub zeros : Tolerances
+zeros = tolerances_of float_zero float_zero float_zero
+
+-- not finite, or outside 0 to 1; −0, 0 and 1 are inside
 unfoldable pub bad_tolerance : Float → Bool
 bad_tolerance x = not (finite x) || lt x float_zero || lt one x
 
--- 'checks: 18 ..., when settings are made'
+-- tolerances are checked where they are made, and nowhere else: 18 where one of the three is bad
 unfoldable pub made : Float → Float → Float → Result Tolerances Refusal
 made near near_zero relabel =
     cond (bad_tolerance near || bad_tolerance near_zero || bad_tolerance relabel) (Err refused.Tolerance) (Ok (tolerances_of near near_zero relabel))
 
--- ---- the tests, by the tolerances that they receive
+-- ---- the tests: each receives the record, and goes by its own tolerance of the three
 abbrev pub is_near : Tolerances → Float → Float → Bool
 is_near t a b = near a b t.near
 
