@@ -1,15 +1,14 @@
--- An answer in document 01's terms: the values, or the paper's refusal number; what it is for each case of a call's result; and what a lent output
--- then holds.
+-- What a call answers: its values, or one number of docs/REFERENCE.md, 'Refusals'; and what a lent output then holds.
 use Rattle.std.specs.Prelude.{Bool, cond, ℕ, List, Result, Ok, Err}
 use Rattle.buffer.specs.Refusals.{number}
 use Rattle.buffer.specs.declared.refusals.Refusal.{Refusal}
 
--- values, or a refusal of the table
+-- values, or the number of a refusal of the table
 pub data Answer (A : Type 0) : Type 0 where
   accepted : A → Answer A
   refusal : ℕ → Answer A
 
--- 'a definition gives this paper's number and values for each of its cases' (document 01, 'The shape of each place')
+-- the answer that each case of a call's result is: the values as they stand, and each refusal by its number
 abbrev pub answer_of : {A : Type 0} → Result A Refusal → Answer A
 answer_of (Ok values) = accepted values
 answer_of (Err refused) = refusal (number refused)
@@ -19,7 +18,7 @@ abbrev pub stored : {A : Type 0} → Answer A → List ℕ → List ℕ → List
 stored (accepted values) samples out = samples
 stored (refusal number) samples out = out
 
--- a call whose checks stand before its values: the first refusal of the checks, else the values
+-- a call whose checks stand before its values: the refusal of the checks, else the values
 abbrev pub after_checks : {A : Type 0} → Result Unit Refusal → A → Result A Refusal
 after_checks (Ok passed) values = Ok values
 after_checks (Err refused) values = Err refused

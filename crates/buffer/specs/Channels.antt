@@ -1,9 +1,9 @@
--- Where the channels of a buffer lie (document 01, 'Buffer shape and copies').
+-- Where the channels of a buffer lie (docs/REFERENCE.md, 'Buffers and copies').
 use Rattle.std.specs.Prelude.{◌≡◌, ℕ, ◌*◌, ◌<◌, List, length, take, drop}
 use Rattle.std.proofs.Common.{arith, length-drop, length-take-le}
 use Rattle.lists.specs.Rows.{row_fits, rows, row_of}
 
--- the frames of channel c: 'channels lie one after another, each N frames long'
+-- the frames of channel c: the channels lie one after another, each `frames` frames long
 abbrev pub channel : List ℕ → ℕ → ℕ → List ℕ
 channel samples frames c = take frames (drop (frames * c) samples)
 

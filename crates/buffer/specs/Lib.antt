@@ -1,4 +1,4 @@
--- What the contracts of `buffer` cite: limits and refusals, where channels lie, one definition of each copy, and the known frames about copies.
+-- What the contracts of `buffer` cite: refusals, limits, answers, where channels lie, one definition of each copy, and known frames.
 pub mod Refusals
 pub mod Limits
 pub mod Answers

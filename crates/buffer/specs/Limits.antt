@@ -1,4 +1,4 @@
--- The limits of every buffer (document 01, 'Limits', and the table's rows 1 and 2), and a buffer's duration.
+-- The limits of every buffer, and a buffer's duration (docs/REFERENCE.md, 'Limits' and 'Buffers and copies').
 use Rattle.std.specs.Prelude.{◌≡◌, ℕ, ◌*◌, ◌≤◌, Bool, true, false, ◌&&◌, pos, ◌==◌, nat_le, refl, Float}
 use Rattle.std.proofs.Common.{leb-true, eqb-true}
 use Rattle.std.specs.Float.{binary32, binary64}
@@ -14,13 +14,14 @@ max_frames = 16777216
 
 -- 1 to max_channels channels, each at most max_frames frames long, in samples of just that length
 unfoldable pub valid_shape : ℕ → ℕ → ℕ → Bool
-valid_shape channels frames len = nat_le 1 channels && (nat_le channels max_channels && (nat_le frames max_frames && len == channels * frames))
+valid_shape channels frames len =
+    nat_le 1 channels && (nat_le channels max_channels && (nat_le frames max_frames && len == channels * frames))
 
--- 3,000 to 768,000; of a NaN both tests are false
+-- 3,000 to 768,000 frames a second; of a NaN both tests are false
 unfoldable pub valid_rate : Float → Bool
 valid_rate rate = le (of_int binary32 (pos 3000)) rate && le rate (of_int binary32 (pos 768000))
 
--- 'Duration is N as f64 divided by the rate as f64': every f32 is an f64 as it stands
+-- the seconds of a buffer: its frames as f64 over its rate as f64. Every f32 is an f64 as it stands
 unfoldable pub duration : ℕ → Float → Float
 duration frames rate = div binary64 (whole frames) rate
 

@@ -1,23 +1,23 @@
--- The refusals of document 01, 'Where a call is turned down', by their numbers and in the order of these.
-use Rattle.std.specs.Prelude.{ℕ}
+-- The refusals by their numbers (docs/REFERENCE.md, 'Refusals').
+use Rattle.std.specs.Prelude.{ℕ, List, decimal}
 use Rattle.buffer.specs.declared.refusals.Refusal.{Refusal}
 use Rattle.buffer.specs.declared.refusals.Refusal.TheVariants as refused
 
 abbrev pub number : Refusal → ℕ
--- any shape or samples: channels not 1..32, frames over the limit, or slice not channels × frames
+-- any shape or samples: channels not 1 to 32, frames over the limit, or samples not channels × frames
 number refused.Shape = 1
--- any rate: outside 3,000..768,000, or NaN
+-- any rate: outside 3,000 to 768,000, or a NaN
 number refused.Rate = 2
--- copy: channel number not below the count
+-- copy: the channel number not below the count
 number refused.Channel = 3
 -- extend: rates or channel counts differ
 number refused.Unlike = 4
 -- split: point above the frame count
 number refused.Point = 5
--- 6, convert by a real change: result of one frame, is retired: such a result is defined now (document 02, 2.4)
--- extend, convert: result over the limit of frames
+-- 6 is retired: no call gives it
+-- extend, convert: a result over the limit of frames
 number refused.Long = 7
--- out slices: not exactly the result's length
+-- a lent output: not exactly the result's length
 number refused.Length = 8
 -- message values: not finite; or negative in start, stop
 number refused.Value = 9
@@ -29,13 +29,17 @@ number refused.Early = 11
 number refused.Empty = 12
 -- block: time not finite, negative, over 2^30, or not above the last accepted block's
 number refused.Time = 13
--- block: rate not finite; factor NaN or outside 2^-64..2^64
+-- block: rate not finite; factor a NaN or outside 2^-64 to 2^64
 number refused.Speed = 14
 -- clip: header, offsets or length differ from the layout
 number refused.Layout = 15
--- block in cents: the cents outside −12,000 to 12,000 (document 02, 2.1)
+-- cents: outside −12,000 to 12,000
 number refused.Cents = 16
--- clip with an onset: the onset not below the frames (document 02, 2.5)
+-- clip with an onset: the onset not below the frames
 number refused.Onset = 17
--- settings: a tolerance not finite, or outside 0 to 1 (document 02, 2.7)
+-- tolerances, where they are made: one not finite, or outside 0 to 1
 number refused.Tolerance = 18
+
+-- what is printed of a refusal: its number's decimal digits
+abbrev pub text : Refusal → List ℕ
+text refusal = decimal (number refusal)

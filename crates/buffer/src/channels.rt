@@ -1,11 +1,11 @@
-// A buffer's samples: channels of as many frames each, one after another.
+//! A buffer's samples: channels of as many frames each, one after another.
 ghost use Rattle.std.specs.Prelude.{◌≡◌, length};
 ghost use Rattle.buffer.specs.Limits.{Valid};
 
 use super::Refusal;
 use super::limits::check_shape;
 
-// Samples of a valid shape.
+/// Samples of a valid shape: f32 bit patterns, `frames` of them for each of `count` channels.
 #[derive(Clone, Copy)]
 pub struct Channels<'a> {
     pub samples: &'a [u32],
@@ -21,7 +21,7 @@ impl<'a> Channels<'a> {
     ghost use Rattle.buffer.specs.Limits.{valid_shape};
     ghost use Rattle.buffer.specs.declared.refusals.Refusal.TheVariants as refused;
 
-    // Refuses what isn't a valid shape.
+    /// The channels of `samples`. Refused: 1, where they are no valid shape.
     pub fn new(count: usize, frames: usize, samples: &'a [u32]) -> Result<Channels<'a>, Refusal>
         ensures checked { passed result ≡ check (valid_shape count frames (length samples.now)) refused.Shape }
         ensures made { IfOk result (λ it. (it.samples.now ≡ samples.now) × (it.count ≡ count) × (it.frames ≡ frames)) }
@@ -34,7 +34,7 @@ impl<'a> Channels<'a> {
         })
     }
 
-    // The frames of channel c, or a refusal where there is none.
+    /// The frames of channel c. Refused: 3, where c isn't below the count.
     pub fn channel(&self, c: usize) -> Result<&'a [u32], Refusal>
         ensures { MatchResult result
             (λ it. (c < self.now.count) × (it.now ≡ channel self.now.samples.now self.now.frames c))

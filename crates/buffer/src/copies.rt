@@ -1,5 +1,6 @@
-// Copies out of and into a channel, as the W3C Web Audio API has them, with the count returned. The
-// parameters are document 01's and that API's, flat, since C passes them so.
+//! Copies out of and into a channel, as the W3C Web Audio API has them; each returns how many frames it moved. The
+//! parameters are flat, since C passes them so. Every copy refuses 1, where `samples` aren't `channels` channels of
+//! `frames` frames, then 3, where there is no channel `number`; all lent memory is then as it was.
 ghost use Rattle.std.specs.Prelude.{◌≡◌, ◌+◌, ◌-◌, ◌*◌, ◌≤◌, min, length, IfOk};
 ghost use Rattle.buffer.specs.Answers.{answer_of};
 ghost use Rattle.buffer.specs.Channels.{channel};
@@ -19,7 +20,9 @@ fn checked(
     count: usize,
 ) -> Result<usize, Refusal>
     ensures answer { result ≡ copied channels frames len number offset count }
-    ensures within { IfOk result (λ n. (frames * number + frames ≤ len) × (len ≤ 536870912) × (min offset frames + n ≤ frames) × (n ≤ count) × (n ≡ min (frames - offset) count)) }
+    ensures within { IfOk result (λ _. (frames * number + frames ≤ len) × (len ≤ 536870912)) }
+    ensures fits { IfOk result (λ n. (min offset frames + n ≤ frames) × (n ≤ count)) }
+    ensures counted { IfOk result (λ n. n ≡ min (frames - offset) count) }
 {
     check_shape(channels, frames, len)?;
     if number >= channels {
@@ -28,7 +31,9 @@ fn checked(
     Ok((frames - offset.min(frames)).min(count))
 }
 
-// Copies the frames of the channel `number` from `offset` on into `destination`.
+/// Copies the frames of the channel `number` from the frame `offset` on into `destination`: as many as are left of
+/// the channel, at most `destination`'s length, and none where the offset is past the end. The rest of `destination`
+/// stays. Refused: 1, 3.
 pub fn copy_from_channel_with_offset(
     channels: usize,
     frames: usize,
@@ -55,7 +60,7 @@ pub fn copy_from_channel_with_offset(
     Ok(n)
 }
 
-// Copies the frames of the channel `number` into `destination`.
+/// Copies the frames of the channel `number` into `destination`, as from offset 0. Refused: 1, 3.
 pub fn copy_from_channel(
     channels: usize,
     frames: usize,
@@ -69,7 +74,8 @@ pub fn copy_from_channel(
     copy_from_channel_with_offset(channels, frames, samples, destination, number, 0)
 }
 
-// Copies `source` into the channel `number` from `offset` on.
+/// Copies `source` into the channel `number` from the frame `offset` on: as much as the channel has room for. All
+/// other samples stay. Refused: 1, 3.
 #[tactic(auto, using(crate::proofs::Moved::into))]
 pub fn copy_to_channel_with_offset(
     channels: usize,
@@ -95,7 +101,7 @@ pub fn copy_to_channel_with_offset(
     Ok(n)
 }
 
-// Copies `source` into the channel `number`.
+/// Copies `source` into the channel `number`, as from offset 0. Refused: 1, 3.
 pub fn copy_to_channel(
     channels: usize,
     frames: usize,

@@ -1,6 +1,6 @@
-// Buffers: limits, shapes and copies. A buffer's channels lie one after another in one lent slice
-// of f32 bit patterns. Each public call answers for every input: with its result, or with the
-// refusal of document 01's table, and all lent memory unchanged.
+//! Buffers: limits, shapes, refusals and copies (docs/REFERENCE.md, 'Limits' and 'Buffers and copies'). A buffer's
+//! channels lie one after another in one lent slice of f32 bit patterns. Each public call answers for every input:
+//! with its result, or with one refusal of docs/REFERENCE.md, 'Refusals', and all lent memory unchanged.
 #![tactic(auto)]
 
 mod channels;
@@ -20,7 +20,8 @@ pub use limits::{
 };
 pub use refusals::Refusal;
 
-// The channels of a buffer, the frames in each of them, and the sample rate.
+/// The channels of a buffer (1 to 32 where it is accepted), the frames in each of them (at most 16,777,216), and the
+/// sample rate in frames a second (3,000 to 768,000). Anything may stand in a record: each call checks it.
 #[repr(C)]
 #[derive(Clone, Copy, Default)]
 pub struct Shape {
