@@ -1,6 +1,6 @@
-// Runs the calls of `buffer` and `reshape` on small buffers, and the known frames of document 01
-// that are executed. Each answer is a line: its values or X and the refusal's number, then the words
-// that the lent slice holds.
+//! Runs the calls of `buffer` and `reshape` on small buffers, known frames among them
+//! (docs/REFERENCE.md, 'Known frames'). Each answer is a line: its values or X and the refusal's number, then the
+//! words that the lent slice holds.
 #![tactic(auto)]
 
 use buffer::{Refusal, Shape};
@@ -136,8 +136,8 @@ fn run_joins(rt: &impl Print) -> io::Result<()> {
     print_parted(rt, parted, &first, &rest)
 }
 
-// Conversions of the frames 0 and 3 (document 02, 2.4): to 48,000.09375 relabels, to 48,000.1015625 makes three frames, from
-// 24,000 to 48,000 makes four, the last one held. Then 3 and 0 from 48,000 to 24,000, which makes one frame, and 0, 3 and a NaN,
+// Conversions of the frames 0 and 3: to 48,000.09375 relabels, to 48,000.1015625 makes three frames, from 24,000 to
+// 48,000 makes four, the last one held. Then 3 and 0 from 48,000 to 24,000, which makes one frame, and 0, 3 and a NaN,
 // whose own bits are held in the sixth frame.
 fn run_conversions(rt: &impl Print) -> io::Result<()> {
     let samples = [0u32, 0x4040_0000];

@@ -1,4 +1,4 @@
--- Cents counted from the lowest that is accepted, as the code counts them: −12,000 is 0 and 12,000 is 24,000. Definitions only.
+-- Cents counted from the lowest that is accepted, as the code counts them: −12,000 is 0 and 12,000 is 24,000.
 use Rattle.std.specs.Prelude.{cond, ℕ, ◌+◌, ◌-◌, ℤ, pos, negsuc, Option, Some, None}
 use Rattle.detune.specs.Detune.{bad_cents}
 

@@ -1,4 +1,4 @@
--- What is said of the table and of the factor (document 02, 2.1).
+-- The table obeys its rule, and the factor is exact (docs/REFERENCE.md, 'Detune in cents').
 use Rattle.std.specs.Prelude.{◌≡◌, false, List, ℕ, ◌*◌, ◌^◌, ◌<◌, T, ℤ, pos, negsuc, ◌+ℤ◌, ◌*ℤ◌, length, get_or}
 use Rattle.std.specs.Float.{binary64, fin}
 use Rattle.std.specs.Float.Ieee.{fits, up, down}
@@ -10,13 +10,13 @@ use Rattle.detune.specs.Detune.{Rule, entry, octaves, above, bad_cents, factor_o
 abbrev pub IsTable : List ℕ → Type 0
 IsTable l = (length l ≡ 1200) × ((c : ℕ) → c < 1200 → Rule c (get_or l c 0))
 
--- the rule 'shown for the whole table'; it has one solution for each c, so that no other table obeys it
+-- every entry obeys the rule, which has one solution for each c, so that no other table obeys it
 pub record TheTable : Type 0 where
   pub obeys : IsTable entries
   pub single : (c f g : ℕ) → Rule c f → Rule c g → f ≡ g
   pub only : (l : List ℕ) → IsTable l → l ≡ entries
 
--- octaves and the cents above them are quotient and remainder by 1,200, rounded downwards; the factor of accepted cents is an f64 without rounding
+-- octaves and the cents above them are quotient and remainder by 1,200, rounded downwards; the factor of accepted cents is not rounded
 pub record Exact : Type 0 where
   pub parts : (cents : ℤ) → cents ≡ pos 1200 *ℤ octaves cents +ℤ pos (above cents)
   pub rest : (cents : ℤ) → above cents < 1200

@@ -1,4 +1,4 @@
--- The table of document 02, 2.1: entry c is 2^(c/1200) × 2^30 rounded down, for c from 0 to 1,199, ten to a line. Definitions only.
+-- The table of an octave (docs/REFERENCE.md, 'Detune in cents'): entry c is 2^(c/1200) × 2^30 rounded down, for c below 1,200.
 -- That each entry obeys the rule, and that no other table does, is said in Statement.antt.
 use Rattle.std.specs.Prelude.{List, [], ◌∷◌, ℕ}
 

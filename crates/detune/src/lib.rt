@@ -1,4 +1,5 @@
-// Detune in whole cents: the table of an octave, and the factor that a block is played with.
+//! Detune in whole cents: the table of an octave, and the factor that a block is played with
+//! (docs/REFERENCE.md, 'Detune in cents').
 #![tactic(auto)]
 
 ghost use Rattle.std.specs.Prelude.{◌≡◌, ◌<◌};
@@ -30,7 +31,7 @@ fn counted(cents: i32) -> Option<usize>
     Some((cents + 12_000) as usize)
 }
 
-// Cents outside −12,000 to 12,000.
+/// Whether cents are refused with 16: they lie outside −12,000 to 12,000.
 #[tactic(auto, unfolding(crate::specs::Counted::counted))]
 pub fn is_bad_cents(cents: i32) -> bool
     ensures { result ≡ bad_cents cents }
@@ -38,9 +39,9 @@ pub fn is_bad_cents(cents: i32) -> bool
     counted(cents).is_none()
 }
 
-// The factor, or a refusal of cents outside −12,000 to 12,000. Counted from 10 octaves below, the
-// octaves are a quotient, and entry × 2^octaves is a whole number below 2^53; so both steps are
-// exact.
+/// The factor of whole cents, 2^(cents/1200) by the table. Refused: 16, outside −12,000 to 12,000. Counted from 10
+/// octaves below, the octaves are a quotient, and entry × 2^octaves is a whole number below 2^53; so both steps are
+/// exact.
 #[tactic(auto, using(crate::proofs::Quotient::limit), unfolding(crate::specs::Counted::counted, crate::specs::Detune::factored))]
 pub fn factor(cents: i32) -> Result<f64, Refusal>
     ensures { result ≡ factored cents }
@@ -50,13 +51,13 @@ pub fn factor(cents: i32) -> Result<f64, Refusal>
     Ok(scaled as f64 / 1_099_511_627_776.0)
 }
 
-// The table obeys the rule, and no other does.
+/// The table obeys its rule, and no other does.
 #[tactic(auto, using(crate::proofs::Single::the_table))]
 pub fn the_table()
     ensures { TheTable }
 {}
 
-// The factor is exact.
+/// The factor is exact: nothing is rounded but the table's entries.
 #[tactic(auto, using(crate::proofs::Exact::is_exact))]
 pub fn factor_is_exact()
     ensures { Exact }

@@ -1,4 +1,6 @@
-// The table of document 02, 2.1: entry c is 2^(c/1200) × 2^30 rounded down, for c from 0 to 1,199.
+//! The table of an octave (docs/REFERENCE.md, 'Detune in cents').
+
+/// Entry c is 2^(c/1200) × 2^30 rounded down, for c from 0 to 1,199.
 pub static ENTRIES: [u32; 1200] = [
     1073741824, 1074362220, 1074982975, 1075604089, 1076225562, 1076847394, 1077469585, 1078092136,
     1078715046, 1079338316, 1079961947, 1080585937, 1081210289, 1081835000, 1082460073, 1083085507,

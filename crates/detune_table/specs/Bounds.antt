@@ -1,5 +1,5 @@
--- 2^(c/1200) × 2^62 between two bounds, each found from the one before it (document 02, 2.1: 'A generator program prints exactly this table from the rule').
--- Definitions only; that the bounds hold, and what they decide, is said in Statement.antt.
+-- 2^(c/1200) × 2^62 between two bounds, each found from the one before it: how the table is found from its rule
+-- (docs/REFERENCE.md, 'Detune in cents'). That the bounds hold, and what they decide, is said in Statement.antt.
 use Rattle.std.specs.Prelude.{ℕ, zero, suc, ◌+◌, ◌*◌, ◌/◌, ◌^◌}
 
 -- 2^(1/1200) × 2^62 rounded down

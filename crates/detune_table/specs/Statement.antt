@@ -1,4 +1,4 @@
--- What is said of the numbers that are printed (document 02, 2.1).
+-- The numbers that are printed are the table: they obey its rule (docs/REFERENCE.md, 'Detune in cents').
 use Rattle.std.specs.Prelude.{◌≡◌, List, ℕ, ◌+◌, ◌*◌, ◌/◌, ◌^◌, ◌≤◌, ◌<◌}
 use Rattle.lists.specs.Table.{table}
 use Rattle.detune.specs.Table.{entries}

@@ -1,14 +1,15 @@
-// Prints the table of document 02, 2.1, from its rule: 1,200 lines, entry 0 first. A lower bound of
-// 2^(c/1200) × 2^62 is multiplied on from entry to entry; its upper 31 digits are the entry. No
-// table is read.
+//! Prints the table of cents from its rule (docs/REFERENCE.md, 'Detune in cents'): 1,200 lines, entry 0 first. A
+//! lower bound of 2^(c/1200) × 2^62 is multiplied on from entry to entry; its upper 31 digits are the entry. No
+//! table is read.
 #![tactic(auto)]
 
-ghost use Rattle.std.specs.Prelude.{◌≡◌, ◌*◌, ◌/◌, ◌^◌, ◌<◌, ◌≤◌, take};
+ghost use Rattle.std.specs.Prelude.{◌≡◌, ◌*◌, ◌/◌, ◌^◌, ◌<◌, ◌≤◌, take, OnOk};
+ghost use Rattle.std.specs.Io.KnownBytes.{Appends};
 ghost use Rattle.detune.specs.Table.{entries};
 ghost use Rattle.detune_table.specs.Statement.{Generated};
 ghost use Rattle.detune_table.specs.Text.{table_text};
 
-use std::io;
+use std::io::{self, Write};
 
 // Room for the lines: a line has at most 21 bytes.
 const ROOM: usize = 25_200;
@@ -50,8 +51,15 @@ fn put_table(out: &mut [u8; ROOM]) -> usize
     at
 }
 
-fn main(rt: HostRuntime) -> io::Result<()> {
+// Writes the text of the table behind what the writer holds, or fails with the writer's error.
+fn print_table<W: Write>(to: &mut W) -> io::Result<()>
+    ensures { OnOk result (Appends (W.contents to.old) (W.contents to.new) (table_text entries)) }
+{
     let mut out = [0; ROOM];
     let n = put_table(&mut out);
-    rt.write_all(&out[..n])
+    to.write_all(&out[..n])
+}
+
+fn main(rt: HostRuntime) -> io::Result<()> {
+    print_table(&mut io::writer(&rt))
 }

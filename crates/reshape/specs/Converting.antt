@@ -1,6 +1,7 @@
--- Conversion to another rate (document 01, 'Extend, split, convert', and where a frame is read document 02, 2.4), each step rounded. A conversion is
--- handed tolerances (document 02, 2.7), of which it uses the relabel distance; the calls that are handed none have the defaults, at the end.
-use Rattle.std.specs.Prelude.{ℕ, ◌+◌, ◌-◌, min, Bool, cond, not, ◌||◌, List, length, pos, ◌==◌, from_bits, nat_lt, slice_index, to_bits, Float}
+-- Conversion to another rate, each step rounded (docs/REFERENCE.md, 'Conversion'). A conversion is handed tolerances, of which it uses the
+-- relabel distance; the calls that are handed none have the defaults, at the end.
+use Rattle.std.specs.Prelude.{ℕ, ◌+◌, ◌-◌, min, pos, Bool, cond, not, ◌||◌, ◌==◌, nat_lt, List, length, slice_index, Float, from_bits}
+use Rattle.std.specs.Prelude.{to_bits, Result, Ok, Err}
 use Rattle.std.specs.Float.{binary32, binary64}
 use Rattle.std.specs.Float.Ieee.{of_int, add, sub, mul, div, lt}
 use Rattle.rounding.specs.Rounding.{whole, floor, ceil, truncate, convert}
@@ -13,17 +14,16 @@ use Rattle.buffer.specs.declared.Shape.{Shape}
 use Rattle.tolerances.specs.declared.Tolerances.{Tolerances}
 use Rattle.tolerances.specs.Tolerances.{defaults, is_same_rate}
 use Rattle.buffer.specs.declared.refusals.Refusal.{Refusal}
-use Rattle.std.specs.Prelude.{Result, Ok, Err}
 
--- 'conversion within 0.1 of the rate', or within the distance that it is handed, 'or of an empty buffer, only relabels'
+-- a conversion changes the rate alone where the new one is within the relabel distance of the buffer's, or the buffer is empty
 unfoldable pub relabels_with : Tolerances → Shape → Float → Bool
 relabels_with t shape rate = is_same_rate t shape.rate rate || shape.frames == 0
 
--- 'ceil(N × ratio) = M frames', the ratio being the target's rate over the source's
+-- the frames of the result: those of the buffer times the new rate over the old one, in f64 with the quotient first, rounded up
 unfoldable pub converted_length : Shape → Float → ℕ
 converted_length shape rate = truncate (ceil binary64 (mul binary64 (whole shape.frames) (div binary64 rate shape.rate)))
 
--- rows 1 and 2 for a buffer of `len` samples and a new rate; then a relabelled shape, or row 7 and the result's shape
+-- 1 and 2 for a buffer of `len` samples, 2 for the new rate; then a relabelled shape, or 7 and the result's shape
 unfoldable pub converted_shape_with : Tolerances → Shape → ℕ → Float → Result Shape Refusal
 converted_shape_with t shape len rate =
     cond (not (valid_shape shape.channels shape.frames len)) (Err refused.Shape)
@@ -33,7 +33,7 @@ converted_shape_with t shape len rate =
     (cond (nat_lt max_frames (converted_length shape rate)) (Err refused.Long)
     (Ok (record { channels = shape.channels; frames = converted_length shape rate; rate = rate }))))))
 
--- 'frame i is read at i × source rate / target rate, worked in f64 with the product first'
+-- where frame i is read, in frames of the source: i × source rate / target rate, in f64 with the product first
 unfoldable pub playhead : Float → Float → ℕ → Float
 playhead source target i = div binary64 (mul binary64 (whole i) source) target
 
@@ -41,18 +41,18 @@ playhead source target i = div binary64 (mul binary64 (whole i) source) target
 unfoldable pub previous : Float → ℕ
 previous position = truncate (floor binary64 position)
 
--- 'its fraction k is narrowed to f32'
+-- how far past that frame, narrowed to f32
 unfoldable pub fraction : Float → Float
 fraction position = convert binary32 (sub binary64 position (floor binary64 position))
 
--- '(1 − k) × the frame plus k × the next, worked in f32, each step rounded'
+-- (1 − k) × the frame plus k × the next, in f32 with each step rounded
 unfoldable pub mixed : Float → ℕ → ℕ → ℕ
 mixed k frame next =
     to_bits binary32 (add binary32
     (mul binary32 (sub binary32 (of_int binary32 (pos 1)) k) (from_bits binary32 frame))
     (mul binary32 k (from_bits binary32 next)))
 
--- frame i of the result: 'a read at a position above N − 1 gives the last frame's bits, unweighted'; else it is mixed of 'the frame' and 'the next (or last)'
+-- frame i of the result: past the last frame, that frame's own bits; else mixed of the frame at or before its place, and the next (or last)
 unfoldable pub resampled : Float → Float → List ℕ → ℕ → ℕ
 resampled source target frames i =
     let position = playhead source target i in
@@ -70,7 +70,7 @@ converted_samples_with t shape samples rate =
     cond (relabels_with t shape rate) samples
     (resampled_channels shape.rate rate samples shape.channels shape.frames (converted_length shape rate))
 
--- ---- at the defaults
+-- ---- with the default tolerances
 unfoldable pub relabels : Shape → Float → Bool
 relabels shape rate = relabels_with defaults shape rate
 

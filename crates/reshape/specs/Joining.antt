@@ -1,4 +1,4 @@
--- Extend (document 01, 'Extend, split, convert'): 'joins channel by channel'.
+-- Extend: a buffer is joined to another, channel by channel (docs/REFERENCE.md, 'Extend and split').
 use Rattle.std.specs.Prelude.{ℕ, ◌+◌, cond, not, List, ◌++◌, ◌==◌, nat_lt}
 use Rattle.std.specs.Float.Ieee.{ne}
 use Rattle.lists.specs.Rows.{rows}
@@ -9,7 +9,7 @@ use Rattle.buffer.specs.declared.Shape.{Shape}
 use Rattle.buffer.specs.declared.refusals.Refusal.{Refusal}
 use Rattle.std.specs.Prelude.{Result, Ok, Err}
 
--- rows 1, 2, 4 and 7 for a buffer a of m samples and a buffer b of n samples, then the result's shape
+-- 1, 2, 4 and 7 for a buffer a of m samples and a buffer b of n samples, then the result's shape
 unfoldable pub extended_shape : Shape → ℕ → Shape → ℕ → Result Shape Refusal
 extended_shape a m b n =
     cond (not (valid_shape a.channels a.frames m)) (Err refused.Shape)

@@ -1,4 +1,4 @@
--- Document 01, 'Known frames': the starred one about conversion, as document 02, 2.4, has it now; one claim about the definitions.
+-- Known frames about conversion, as one claim about the definitions (docs/REFERENCE.md, 'Known frames').
 use Rattle.std.specs.Prelude.{◌≡◌, ℕ, [], ◌∷◌, false, pos, negsuc, to_bits, Float}
 use Rattle.std.specs.Float.{binary32, fin}
 use Rattle.std.specs.Float.Ieee.{of_int}
@@ -23,6 +23,6 @@ mono frames rate = record { channels = 1; frames = frames; rate = single rate }
 
 unfoldable pub KnownReshape : Type 0
 KnownReshape =
-    -- frames 0, 3 at 24,000 to 48,000: 0, 1.5, 3, 3 (document 02, 2.4)
+    -- frames 0, 3 at 24,000 to 48,000: 0, 1.5, 3, 3
     (converted_shape (mono 2 24000) 2 (single 48000) ≡ Ok (mono 4 48000))
     × (converted_samples (mono 2 24000) (bits 0 ∷ bits 3 ∷ []) (single 48000) ≡ bits 0 ∷ halves 3 ∷ bits 3 ∷ bits 3 ∷ [])

@@ -1,4 +1,4 @@
--- Split (document 01, 'Extend, split, convert'): 'split at s gives the first s and the rest'.
+-- Split: the first s frames of each channel, and the rest (docs/REFERENCE.md, 'Extend and split').
 use Rattle.std.specs.Prelude.{ℕ, ◌-◌, ◌*◌, cond, not, List, take, drop, ◌==◌, nat_lt}
 use Rattle.lists.specs.Rows.{rows}
 use Rattle.buffer.specs.declared.refusals.Refusal.TheVariants as refused
@@ -8,7 +8,7 @@ use Rattle.buffer.specs.declared.Shape.{Shape}
 use Rattle.buffer.specs.declared.refusals.Refusal.{Refusal}
 use Rattle.std.specs.Prelude.{Result, Ok, Err}
 
--- rows 1, 2 and 5 for a buffer of `len` samples, then the shapes of the first s frames and of the rest
+-- 1, 2 and 5 for a buffer of `len` samples, then the shapes of the first s frames and of the rest
 unfoldable pub split_shapes : Shape → ℕ → ℕ → Result (Shape × Shape) Refusal
 split_shapes shape len s =
     cond (not (valid_shape shape.channels shape.frames len)) (Err refused.Shape)
@@ -19,7 +19,7 @@ split_shapes shape len s =
       record { channels = shape.channels; frames = shape.frames - s; rate = shape.rate },
     ))))
 
--- row 8, checked last: each output is exactly its part's length
+-- 8, checked last: each output is exactly its part's length
 unfoldable pub both_fitted : Result (Shape × Shape) Refusal → ℕ → ℕ → Result (Shape × Shape) Refusal
 both_fitted (Err refusal) m n = Err refusal
 both_fitted (Ok (first, rest)) m n =

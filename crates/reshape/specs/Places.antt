@@ -1,4 +1,4 @@
--- Where the frames of a result are read, apart from a channel's frames: it is worked out once for all channels. Definitions only.
+-- Where the frames of a result are read, apart from a channel's frames: it is worked out once for all channels.
 use Rattle.std.specs.Prelude.{ℕ, ◌+◌, ◌-◌, min, cond, List, length, nat_lt, from_bits, slice_index, get_or, Float}
 use Rattle.std.specs.Float.{binary32, nan}
 use Rattle.std.specs.Float.Ieee.{lt}

@@ -1,10 +1,10 @@
-// Conversion of a buffer to another rate: relabelled, or each frame of the result read at its own
-// instant. It is handed tolerances, of which it uses the relabel distance.
+//! Conversion of a buffer to another rate: relabelled, or each frame of the result read at its own instant. It is
+//! handed tolerances, of which it uses the relabel distance.
 ghost use Rattle.std.specs.Prelude.{◌≡◌, length};
 ghost use Rattle.buffer.specs.Answers.{answer_of, stored};
 ghost use Rattle.reshape.specs.Fitting.{fitted};
-ghost use Rattle.reshape.specs.Converting.{relabels_with, converted_length, converted_shape_with, converted_samples_with};
-ghost use Rattle.reshape.specs.Converting.{converted_shape, converted_samples};
+ghost use Rattle.reshape.specs.Converting.{converted_length, converted_shape, converted_samples};
+ghost use Rattle.reshape.specs.Converting.{relabels_with, converted_shape_with, converted_samples_with};
 
 use super::fitting::check_length;
 use super::resampling::{Rates, resample_channels};
@@ -31,7 +31,8 @@ fn converted_length(shape: Shape, rate: f32) -> usize
     rounding::truncate(rounding::ceil(whole(shape.frames) * ratio)) as usize
 }
 
-// The shape of a buffer of `len` samples, converted to another rate with these tolerances.
+/// The shape of a buffer of `len` samples, converted to another rate (frames a second) with these tolerances.
+/// Refused: 1, 2 (the buffer's rate, then the new one), 7.
 #[tactic(auto, unfolding(crate::specs::Converting::converted_shape_with))]
 pub fn converted_shape_with(
     shape: Shape,
@@ -59,7 +60,7 @@ pub fn converted_shape_with(
     })
 }
 
-// The shape of such a conversion with the default tolerances.
+/// The shape of such a conversion with the default tolerances. Refused: 1, 2, 7.
 #[tactic(auto, unfolding(crate::specs::Converting::converted_shape))]
 pub fn converted_shape(shape: Shape, len: usize, rate: f32) -> Result<Shape, Refusal>
     ensures { result ≡ converted_shape shape len rate }
@@ -67,7 +68,8 @@ pub fn converted_shape(shape: Shape, len: usize, rate: f32) -> Result<Shape, Ref
     converted_shape_with(shape, len, rate, Tolerances::default())
 }
 
-// Converts the buffer of `samples` to another rate, with these tolerances, into `out`.
+/// Converts the buffer of `samples` to another rate (frames a second), with these tolerances, into `out`, which is
+/// exactly as long as the result. Refused: 1, 2, 7, 8; `out` then stays.
 #[tactic(auto, unfolding(crate::specs::Converting::converted_shape_with, crate::specs::Converting::converted_samples_with, crate::specs::Converting::relabels_with, crate::specs::Fitting::fitted))]
 pub fn convert_with(
     shape: Shape,
@@ -90,7 +92,7 @@ pub fn convert_with(
     Ok(made)
 }
 
-// Such a conversion with the default tolerances.
+/// Such a conversion with the default tolerances. Refused: 1, 2, 7, 8.
 #[tactic(auto, unfolding(crate::specs::Converting::converted_shape, crate::specs::Converting::converted_samples))]
 pub fn convert(shape: Shape, samples: &[u32], rate: f32, out: &mut [u32]) -> Result<Shape, Refusal>
     ensures { (result ≡ fitted (converted_shape shape (length samples.now) rate) (length out.old))

@@ -1,4 +1,4 @@
-// Extend: a buffer joined to another, channel by channel.
+//! Extend: a buffer joined to another, channel by channel.
 ghost use Rattle.std.specs.Prelude.{◌≡◌, ◌+◌, ◌*◌, ◌≤◌, ◌++◌, length, IfOk};
 ghost use Rattle.lists.specs.Rows.{rows};
 ghost use Rattle.buffer.specs.Channels.{channel};
@@ -10,7 +10,7 @@ use super::fitting::check_length;
 use super::parts::write_parts;
 use buffer::{Channels, MAX_FRAMES, Refusal, Shape, check_rate, check_shape};
 
-// The shape of `a`, which has `m` samples, extended by `b`, which has `n`.
+/// The shape of `a`, which has `m` samples, extended by `b`, which has `n`. Refused: 1, 2 (of `a`, then of `b`), 4, 7.
 #[tactic(auto, unfolding(crate::specs::Joining::extended_shape))]
 pub fn extended_shape(a: Shape, m: usize, b: Shape, n: usize) -> Result<Shape, Refusal>
     ensures answer { result ≡ extended_shape a m b n }
@@ -44,7 +44,8 @@ fn join_channel(part: &mut [u32], first: &[u32], second: &[u32])
 fn join_channels(out: &mut [u32], first: Channels, second: Channels)
     requires alike { second.count ≡ first.count }
     requires fits { length out.old ≡ (first.frames + second.frames) * first.count }
-    ensures { out.new ≡ rows first.entry.count (λ c. channel first.entry.samples.now first.entry.frames c ++ channel second.entry.samples.now second.entry.frames c) }
+    ensures { out.new ≡ rows first.entry.count (λ c. channel first.entry.samples.now first.entry.frames c
+        ++ channel second.entry.samples.now second.entry.frames c) }
 {
     let size = first.frames + second.frames;
     write_parts(out, size, first.count, |part, c| {
@@ -52,7 +53,8 @@ fn join_channels(out: &mut [u32], first: Channels, second: Channels)
     });
 }
 
-// Extends the buffer `a` of `samples` by the buffer `b` of `other`, into `out`.
+/// Extends the buffer `a` of `samples` by the buffer `b` of `other`, into `out`, which is exactly as long as the
+/// result. Refused: 1, 2, 4, 7, 8; `out` then stays.
 #[tactic(auto, unfolding(crate::specs::Joining::extended_shape, crate::specs::Fitting::fitted))]
 pub fn extend(
     a: Shape,

@@ -1,6 +1,6 @@
-// Extend, split and convert: buffers of another shape, each stored in a lent slice of just its
-// length. Each public call answers for every input: with the shapes of its results, or with the
-// refusal of document 01's table, and all lent memory unchanged.
+//! Extend, split and convert: buffers of another shape, each stored in a lent slice of just its length
+//! (docs/REFERENCE.md, 'Extend and split' and 'Conversion'). Each public call answers for every input: with the shapes
+//! of its results, or with one refusal of docs/REFERENCE.md, 'Refusals', and all lent memory unchanged.
 #![tactic(auto)]
 
 mod converting;

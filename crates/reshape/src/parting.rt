@@ -1,4 +1,4 @@
-// Split: the first frames of a buffer, and the rest.
+//! Split: the first frames of a buffer, and the rest.
 ghost use Rattle.std.specs.Prelude.{◌≡◌, ◌+◌, ◌*◌, ◌≤◌, length, take, drop};
 ghost use Rattle.lists.specs.Rows.{rows};
 ghost use Rattle.buffer.specs.Answers.{answer_of, stored};
@@ -9,7 +9,7 @@ use super::fitting::check_length;
 use super::parts::write_parts;
 use buffer::{Channels, Refusal, Shape, check_rate, check_shape};
 
-// The shapes of the first `point` frames of a buffer of `len` samples, and of the rest.
+/// The shapes of the first `point` frames of a buffer of `len` samples, and of the rest. Refused: 1, 2, 5.
 #[tactic(auto, unfolding(crate::specs::Parting::split_shapes))]
 pub fn split_shapes(shape: Shape, len: usize, point: usize) -> Result<(Shape, Shape), Refusal>
     ensures { result ≡ split_shapes shape len point }
@@ -34,14 +34,16 @@ pub fn split_shapes(shape: Shape, len: usize, point: usize) -> Result<(Shape, Sh
 fn cut_channels(out: &mut [u32], channels: Channels, from: usize, size: usize)
     requires within { from + size ≤ channels.frames }
     requires fits { length out.old ≡ size * channels.count }
-    ensures { out.new ≡ rows channels.entry.count (λ c. take size (drop from (channel channels.entry.samples.now channels.entry.frames c))) }
+    ensures { out.new ≡ rows channels.entry.count
+        (λ c. take size (drop from (channel channels.entry.samples.now channels.entry.frames c))) }
 {
     write_parts(out, size, channels.count, |part, c| {
         part.copy_from_slice(&channels.channel(c).unwrap()[from..from + size])
     });
 }
 
-// Splits the buffer of `samples` at the frame `point`, into `first` and `rest`.
+/// Splits the buffer of `samples` at the frame `point`, into `first` and `rest`, each exactly as long as its part.
+/// Refused: 1, 2, 5, 8; both outputs then stay.
 #[tactic(auto, unfolding(crate::specs::Parting::split_shapes, crate::specs::Parting::both_fitted))]
 pub fn split(
     shape: Shape,
@@ -50,7 +52,8 @@ pub fn split(
     first: &mut [u32],
     rest: &mut [u32],
 ) -> Result<(Shape, Shape), Refusal>
-    ensures { (result ≡ both_fitted (split_shapes shape (length samples.now) point) (length first.old) (length rest.old))
+    ensures { (result
+        ≡ both_fitted (split_shapes shape (length samples.now) point) (length first.old) (length rest.old))
         × (first.new ≡ stored (answer_of result) (first_part shape samples.now point) first.old)
         × (rest.new ≡ stored (answer_of result) (rest_part shape samples.now point) rest.old) }
 {

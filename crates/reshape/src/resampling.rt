@@ -1,5 +1,5 @@
-// The frames of a conversion by a real change. Where each is read is worked out once for all
-// channels, for a block of frames at a time.
+//! The frames of a conversion that does more than relabel. Where each is read is worked out once for all channels, for
+//! a block of frames at a time.
 ghost use Rattle.std.specs.Prelude.{◌≡◌, ◌+◌, ◌*◌, ◌^◌, ◌<◌, ◌≤◌, T, length};
 ghost use Rattle.buffer.specs.Channels.{channel};
 ghost use Rattle.lists.specs.Parts.{put};
@@ -16,7 +16,7 @@ use rounding::BinaryFloat;
 // How many frames of a result are read at a time.
 const BLOCK: usize = 64;
 
-// The rates of a conversion, both within the limits.
+/// The rates of a conversion in frames a second, both within the limits.
 #[derive(Clone, Copy)]
 pub(crate) struct Rates {
     source: f64,
@@ -59,7 +59,7 @@ fn read_at(channel: &[u32], frame: usize, k: f32) -> u32
 }
 
 impl Rates {
-    // The rates, where both were checked.
+    /// The rates, where both were checked.
     pub(crate) fn new(source: f32, target: f32) -> Rates
         requires { T (valid_rate source) × T (valid_rate target) }
         ensures { (result.source ≡ source) × (result.target ≡ target) }
@@ -82,7 +82,8 @@ impl Rates {
     #[tactic(auto, using(crate::proofs::Places::counted, crate::proofs::Places::floored, crate::proofs::Places::same), unfolding(crate::specs::Places::place_frame, crate::specs::Places::place_fraction, crate::specs::Converting::fraction))]
     fn place(self, last: u32, i: u32) -> (u32, f32)
         requires { last < 16777216 }
-        ensures { (result.0 ≡ place_frame self.source self.target last i) × (result.1 ≡ place_fraction self.source self.target last i) }
+        ensures { (result.0 ≡ place_frame self.source self.target last i)
+            × (result.1 ≡ place_fraction self.source self.target last i) }
     {
         let position = self.playhead(i);
         if f64::from(last) < position {
@@ -100,8 +101,10 @@ impl Places {
         requires last { last < 16777216 }
         requires fits { (first + count < 2 ^ 32) × (count ≤ 64) }
         ensures room { (count ≤ length self.old.frame) × (count ≤ length self.old.fraction) }
-        ensures frames { self.new.frame ≡ filled count (λ i. place_frame rates.source rates.target last (first + i)) self.old.frame }
-        ensures fractions { self.new.fraction ≡ filled count (λ i. place_fraction rates.source rates.target last (first + i)) self.old.fraction }
+        ensures frames { self.new.frame
+            ≡ filled count (λ i. place_frame rates.source rates.target last (first + i)) self.old.frame }
+        ensures fractions { self.new.fraction
+            ≡ filled count (λ i. place_fraction rates.source rates.target last (first + i)) self.old.fraction }
     {
         for i in 0..count {
             (self.frame[i], self.fraction[i]) = rates.place(last, first + i as u32);
@@ -126,7 +129,8 @@ impl Places {
         requires few { count ≤ 64 }
         requires within { first + count ≤ length part.old }
         requires some { 1 ≤ length channel.now }
-        ensures { part.new ≡ put first count (table count (at_places self.now.frame self.now.fraction channel.now)) part.old }
+        ensures { part.new
+            ≡ put first count (table count (at_places self.now.frame self.now.fraction channel.now)) part.old }
     {
         self.fill(&mut part[first..first + count], channel)
     }
@@ -144,8 +148,10 @@ impl Places {
         requires within { first + count ≤ size }
         requires some { 1 ≤ channels.frames }
         requires fits { length out.old ≡ size * channels.count }
-        ensures { out.new ≡ rows channels.entry.count (λ c. put first count
-            (table count (at_places self.now.frame self.now.fraction (channel channels.entry.samples.now channels.entry.frames c))) (channel out.old size c)) }
+        ensures { out.new ≡ rows channels.entry.count (λ c.
+            let frames = channel channels.entry.samples.now channels.entry.frames c in
+            let read = at_places self.now.frame self.now.fraction frames in
+            put first count (table count read) (channel out.old size c)) }
     {
         write_parts(out, size, channels.count, |part, c| {
             self.write(part, channels.channel(c).unwrap(), first, count)
@@ -153,12 +159,13 @@ impl Places {
     }
 }
 
-// Converts each channel into its own part of `size` frames of the output.
+/// Converts each channel into its own part of `size` frames of the output.
 pub(crate) fn resample_channels(out: &mut [u32], channels: Channels, size: usize, rates: Rates)
     requires some { 1 ≤ channels.frames }
     requires fits { length out.old ≡ size * channels.count }
     requires short { size ≤ 16777216 }
-    ensures { out.new ≡ resampled_channels rates.source rates.target channels.entry.samples.now channels.entry.count channels.entry.frames size }
+    ensures { out.new ≡ resampled_channels rates.source rates.target
+        channels.entry.samples.now channels.entry.count channels.entry.frames size }
 {
     let last = (channels.frames - 1) as u32;
     let mut places = Places {

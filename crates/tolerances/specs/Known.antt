@@ -66,15 +66,15 @@ pub record KnownTolerances : Type 0 where
   pub relabel_below : made float_zero float_zero below_zero_single ≡ Err refused.Tolerance
   pub relabel_nan : made float_zero float_zero nan ≡ Err refused.Tolerance
   pub relabel_infinite : made float_zero float_zero infinite ≡ Err refused.Tolerance
-  -- 1 and 2 are 1 apart, which is half of the larger: 'less than' the tolerance times the larger
+  -- 1 and 2 are 1 apart, which is half of the larger: less than the tolerance times the larger is near
   pub not_at : is_near (tolerances_of half one one) one two ≡ false
   pub just_above : is_near (tolerances_of above_half float_zero float_zero) one two ≡ true
   pub equal : is_near (tolerances_of float_zero one one) two two ≡ true
-  -- 'less than' the near-zero tolerance
+  -- less than the near-zero tolerance is near zero
   pub not_zero_at : is_near_zero (tolerances_of one half one) half ≡ false
   pub zero_just_above : is_near_zero (tolerances_of float_zero above_half float_zero) half ≡ true
   pub never_zero : is_near_zero (tolerances_of one float_zero one) float_zero ≡ false
-  -- 'at most' the relabel distance
+  -- at most the relabel distance apart is the same rate
   pub same_at : is_same_rate (tolerances_of float_zero float_zero half) rate rate_and_half ≡ true
   pub other_below : is_same_rate (tolerances_of one one below_half) rate rate_and_half ≡ false
   pub same_rate : is_same_rate (tolerances_of one one float_zero) rate rate ≡ true

@@ -27,7 +27,8 @@ bad_tolerance x = not (finite x) || lt x float_zero || lt one x
 -- tolerances are checked where they are made, and nowhere else: 18 where one of the three is bad
 unfoldable pub made : Float → Float → Float → Result Tolerances Refusal
 made near near_zero relabel =
-    cond (bad_tolerance near || bad_tolerance near_zero || bad_tolerance relabel) (Err refused.Tolerance) (Ok (tolerances_of near near_zero relabel))
+    cond (bad_tolerance near || bad_tolerance near_zero || bad_tolerance relabel) (Err refused.Tolerance)
+    (Ok (tolerances_of near near_zero relabel))
 
 -- ---- the tests: each receives the record, and goes by its own tolerance of the three
 abbrev pub is_near : Tolerances → Float → Float → Bool
