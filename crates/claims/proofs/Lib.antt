@@ -27,4 +27,4 @@ pub mod Known
 pub mod Conversions
 pub mod Multiples
 pub mod Tolerances
-pub mod AsBefore
+pub mod GivenNumbers

@@ -7,5 +7,5 @@ pub mod Instances
 pub mod SwitchInstances
 pub mod Known
 pub mod Conversions
-pub mod Former
+pub mod GivenNumbers
 pub mod Tolerances

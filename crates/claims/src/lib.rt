@@ -9,7 +9,7 @@ ghost use Rattle.claims.specs.LongRun.{LongRun};
 ghost use Rattle.claims.specs.Longer.{InCents, Previews};
 ghost use Rattle.claims.specs.LoopSwitch.{LoopSwitch};
 ghost use Rattle.claims.specs.SwitchInstances.{SwitchInstances};
-ghost use Rattle.claims.specs.Tolerances.{KeepsTolerances, Receives, AsBefore};
+ghost use Rattle.claims.specs.Tolerances.{KeepsTolerances, Receives, ReadNowhereElse, AtDefaults};
 
 // Demand 3, for every list of calls on one fresh player.
 pub fn long_run()
@@ -57,18 +57,25 @@ pub fn tolerances_kept()
     ensures { KeepsTolerances }
 {}
 
-// Every near test of a block receives the player's tolerances, and a conversion those that it is
-// handed: each definition with such a test is the former one with their numbers in it.
-#[tactic(auto, using(crate::proofs::AsBefore::receives))]
+/// Every near test of a block receives the player's tolerances, and a conversion those that it is
+/// handed: a block's answer, player and output, and a conversion's result, are those of three given
+/// numbers, with the tolerances' own in their place.
+#[tactic(auto, using(crate::proofs::GivenNumbers::receives))]
 pub fn near_tests_receive()
     ensures { Receives }
 {}
 
-// With the default tolerances all is as before: a player made for a rate alone has them, and so has
-// a conversion that is handed none.
-#[tactic(auto, using(crate::proofs::AsBefore::as_before))]
-pub fn as_before()
-    ensures { AsBefore }
+/// Nothing else of a block reads the tolerances.
+#[tactic(auto, using(crate::proofs::GivenNumbers::read_nowhere_else))]
+pub fn tolerances_read_nowhere_else()
+    ensures { ReadNowhereElse }
+{}
+
+/// At the default tolerances a block and a conversion are those of the default numbers. A player made
+/// for a rate alone has the defaults, and so has a conversion that is handed none.
+#[tactic(auto, using(crate::proofs::GivenNumbers::at_defaults))]
+pub fn at_defaults()
+    ensures { AtDefaults }
 {}
 
 // Conversion by a real change keeps time. Frame i of the result is read at i × source rate / target
