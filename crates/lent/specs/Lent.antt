@@ -1,6 +1,6 @@
--- What a call on a lent player answers, and the player that it leaves, by what the call by value answers; and the answer of the factor. Definitions only.
--- A refused call leaves the player as it was (document 01, 'Where a call is turned down': a refusal returns only its number).
-use Rattle.std.specs.Prelude.{false, Float, Result, Ok, Err}
+-- What a call on lent memory answers, and what it leaves there, by what the call by value answers; and the answer of the factor. Definitions only.
+-- A refused call leaves the player as it was, and answers its number alone (docs/REFERENCE.md, 'Refusals').
+use Rattle.std.specs.Prelude.{ℕ, false, Float, Result, Ok, Err}
 use Rattle.std.specs.Float.{binary64}
 use Rattle.std.specs.Float.Ieee.{of_bits}
 use Rattle.buffer.specs.Refusals.{number}
@@ -12,10 +12,19 @@ use Rattle.lent.specs.declared.Told.{Told}
 use Rattle.lent.specs.declared.Blocked.{Blocked}
 use Rattle.lent.specs.declared.Factored.{Factored}
 
--- a message or a buffer call: the player, and the refusal's number, 0 for none
+-- the refusal's number, 0 for none
+abbrev pub refusal_for : {A : Type 0} → Result A Refusal → ℕ
+refusal_for (Ok values) = 0
+refusal_for (Err refused) = number refused
+
+-- what a call leaves in a place that held `old`: what it made; a refused call leaves the old
+abbrev pub left_for : {A : Type 0} → A → Result A Refusal → A
+left_for old (Ok made) = made
+left_for old (Err refused) = old
+
+-- a message or a buffer call: the player that it leaves, and the refusal's number, 0 for none
 abbrev pub after_call : Player → Result Player Refusal → Told
-after_call p (Ok q) = record { player = q; refusal = 0 }
-after_call p (Err refused) = record { player = p; refusal = number refused }
+after_call p answer = record { player = left_for p answer; refusal = refusal_for answer }
 
 -- a block: the player; keep-alive, ended, the answered channels and the position, or the refusal's number beside zeros
 abbrev pub after_block : Player → Result BlockReport Refusal → Blocked

@@ -1,14 +1,13 @@
-// What the library for C is made of, below its exported functions: the player's calls by value, a
-// block and a message on the lent player, the factor of cents, and the player that a refused rate is
-// answered with.
+//! What the library for C is made of, below its exported functions: what a call stores in a lent
+//! record, the messages and blocks on a lent player and by value, the factor of cents, and the player
+//! that a refused rate is answered with. Definitions: specs/Lent.antt and specs/Nobody.antt.
 #![tactic(auto)]
 
 ghost use Rattle.std.specs.Prelude.{◌≡◌, ℕ, List, length};
-ghost use Rattle.buffer.specs.Answers.{passed};
-ghost use Rattle.player.specs.Messages.{handled, buffered};
+ghost use Rattle.player.specs.Messages.{handled};
 ghost use Rattle.player.specs.Block.{rendered, output};
 ghost use Rattle.cents.specs.Cents.{rendered_cents, output_cents};
-ghost use Rattle.lent.specs.Lent.{after_call, after_block, moved_to};
+ghost use Rattle.lent.specs.Lent.{refusal_for, left_for, after_call, after_block, moved_to};
 ghost use Rattle.lent.specs.declared.Blocked.{Blocked};
 ghost use Rattle.lent.specs.Nobody.{no_shape, nobody, NobodyPlays};
 
@@ -17,9 +16,9 @@ use cents::process_cents;
 use player::{BlockReport, ControlMessage, Player, RenderState};
 use seconds::BufferSeconds;
 
-// The player that a message or a buffer call leaves, and the number of its refusal, 0 for none. C
-// sees this record and those below, and an exported function can't return an enum: so a number
-// stands beside the values.
+/// The player that a message leaves, and the number of its refusal, 0 for none. C sees this record
+/// and those below, and an exported function can't return an enum: so a number stands beside the
+/// values.
 #[repr(C)]
 #[derive(Clone, Copy)]
 pub struct Told {
@@ -27,8 +26,8 @@ pub struct Told {
     pub refusal: u32,
 }
 
-// What a block answers: keep-alive, ended, the answered channels and the position; or the number of
-// its refusal beside zeros.
+/// What a block answers: the position after it in seconds of the clip, the answered channels,
+/// keep-alive and ended; or the number of its refusal beside zeros.
 #[repr(C)]
 #[derive(Clone, Copy, Default)]
 pub struct BlockAnswer {
@@ -39,14 +38,14 @@ pub struct BlockAnswer {
     pub ended: bool,
 }
 
-// The player that a block leaves, and its answer.
+/// The player that a block leaves, and its answer.
 #[derive(Clone, Copy)]
 pub struct Blocked {
     pub player: Player,
     pub answer: BlockAnswer,
 }
 
-// The factor of whole cents; or the number of their refusal beside zero.
+/// The factor of whole cents; or the number of their refusal beside zero.
 #[repr(C)]
 #[derive(Clone, Copy)]
 pub struct Factored {
@@ -54,38 +53,43 @@ pub struct Factored {
     pub refusal: u32,
 }
 
-// A refused call leaves the player `p`, which a `From` of the answer alone could not give back; so
-// too `after_block`.
-pub fn after_call(p: Player, handled: Result<Player, Refusal>) -> Told
-    ensures { result ≡ after_call p handled }
+/// Stores what an accepted call made in the place that is lent for it, and returns the number of a
+/// refusal, 0 for none. A refused call stores nothing.
+pub fn store<T: Copy>(place: &mut T, made: Result<T, Refusal>) -> u32
+    ensures { (result ≡ refusal_for made) × (place.new ≡ left_for place.old made) }
 {
-    match handled {
-        Ok(player) => Told { player, refusal: 0 },
-        Err(refusal) => Told {
-            player: p,
-            refusal: refusal.number(),
-        },
+    match made {
+        Ok(made) => {
+            *place = made;
+            0
+        }
+        Err(refusal) => refusal.number(),
     }
 }
 
+/// A control message on a lent player; returns the number of its refusal, 0 for none.
+pub fn handle_control_message(p: &mut Player, m: ControlMessage) -> u32
+    ensures { (result ≡ refusal_for (handled p.old m)) × (p.new ≡ left_for p.old (handled p.old m)) }
+{
+    store(p, p.handle_control_message(m))
+}
+
+/// The player that a call leaves, and its refusal: of one that is refused the player `p`, as it was.
+pub fn after_call(mut p: Player, handled: Result<Player, Refusal>) -> Told
+    ensures { result ≡ after_call p handled }
+{
+    let refusal = store(&mut p, handled);
+    Told { player: p, refusal }
+}
+
+/// A control message on a player by value.
 pub fn message_by_value(p: Player, m: ControlMessage) -> Told
     ensures { result ≡ after_call p (handled p m) }
 {
     after_call(p, p.handle_control_message(m))
 }
 
-pub fn buffer_by_value(
-    p: Player,
-    channels: usize,
-    frames: usize,
-    rate: f32,
-    samples: &[u32],
-) -> Told
-    ensures { result ≡ after_call p (buffered p channels frames rate (length samples.now)) }
-{
-    after_call(p, p.set_buffer(channels, frames, rate, samples))
-}
-
+// A refused block leaves the player `p`, which a `From` of the answer alone could not give back.
 fn after_block(p: Player, rendered: Result<BlockReport, Refusal>) -> Blocked
     ensures { result ≡ after_block p rendered }
 {
@@ -110,8 +114,7 @@ fn after_block(p: Player, rendered: Result<BlockReport, Refusal>) -> Blocked
     }
 }
 
-// Two calls, one with a factor and one in cents, here and below: document 02 names both, and one over
-// either speed would ask again which it is.
+/// A block of 128 frames on a player by value, with a factor. Refused: 8, 13, 14, 1.
 #[inline(always)]
 pub fn block_by_value(
     p: Player,
@@ -127,6 +130,8 @@ pub fn block_by_value(
     after_block(p, p.process(out, samples, time, rate, factor))
 }
 
+/// A block of 128 frames on a player by value, with the factor of whole cents. Refused: 8, 13, 16,
+/// 14, 1.
 #[inline(always)]
 pub fn cents_by_value(
     p: Player,
@@ -142,9 +147,9 @@ pub fn cents_by_value(
     after_block(p, process_cents(p, out, samples, time, rate, cents))
 }
 
-// A block on a lent player, by a call that takes the player by value. What a block may change is
-// written back, and the rest is left: so where the call answers by a definition that leaves the rest
-// too, this answers, leaves and writes what the definition says (`law`).
+/// A block on a lent player, by a call that takes the player by value. What a block may change is
+/// written back, and the rest is left: so where the call answers by a definition that leaves the rest
+/// too, this answers, leaves and writes what the definition says (`law`).
 pub fn block_on_lent<F: FnOnce(Player, &mut [u32]) -> Blocked>(
     p: &mut Player,
     out: &mut [u32],
@@ -154,7 +159,8 @@ pub fn block_on_lent<F: FnOnce(Player, &mut [u32]) -> Blocked>(
     ensures called { (handed : _) × (r : _) × (after : _) × (handed.now ≡ out.old) × F.post block p.old handed r after
         × (result ≡ r.answer) × (p.new ≡ moved_to p.old r.player) × (out.new ≡ after.now) }
     ensures law { (answer : Blocked) (output : List ℕ)
-        → ((handed : _) (r : _) (after : _) → handed.now ≡ out.old → F.post block p.old handed r after → (r ≡ answer) × (after.now ≡ output))
+        → ((handed : _) (r : _) (after : _) → handed.now ≡ out.old → F.post block p.old handed r after
+        → (r ≡ answer) × (after.now ≡ output))
         → moved_to p.old answer.player ≡ answer.player
         → (result ≡ answer.answer) × (p.new ≡ answer.player) × (out.new ≡ output) }
 {
@@ -167,7 +173,7 @@ pub fn block_on_lent<F: FnOnce(Player, &mut [u32]) -> Blocked>(
     answer
 }
 
-// A block on a copy of a player that is looked at, by such a call. The player stays.
+/// A block on a copy of a player that is looked at, by such a call. The player stays.
 pub fn block_on_copy<F: FnOnce(Player, &mut [u32]) -> Blocked>(
     p: &Player,
     out: &mut [u32],
@@ -177,7 +183,8 @@ pub fn block_on_copy<F: FnOnce(Player, &mut [u32]) -> Blocked>(
     ensures called { (handed : _) × (r : _) × (after : _) × (handed.now ≡ out.old) × F.post block p.now handed r after
         × (result ≡ r.answer) × (p.exit.now ≡ p.entry.now) × (out.new ≡ after.now) }
     ensures law { (answer : Blocked) (output : List ℕ)
-        → ((handed : _) (r : _) (after : _) → handed.now ≡ out.old → F.post block p.now handed r after → (r ≡ answer) × (after.now ≡ output))
+        → ((handed : _) (r : _) (after : _) → handed.now ≡ out.old → F.post block p.now handed r after
+        → (r ≡ answer) × (after.now ≡ output))
         → (result ≡ answer.answer) × (p.exit.now ≡ p.entry.now) × (out.new ≡ output) }
 {
     block(*p, out).answer
@@ -200,22 +207,15 @@ impl From<Result<f64, Refusal>> for Factored {
     }
 }
 
-// A control message on a lent player.
-pub fn handle_control_message(p: &mut Player, m: ControlMessage) -> Result<(), Refusal>
-    ensures { (result ≡ passed (handled p.old m)) × (p.new ≡ (after_call p.old (handled p.old m)).player) }
-{
-    *p = p.handle_control_message(m)?;
-    Ok(())
-}
-
-// The shape of a refused answer.
+/// The shape of a refused answer: no channels, no frames, rate 0.
 pub fn no_shape() -> Shape
     ensures { result ≡ no_shape }
 {
     Shape::default()
 }
 
-// The player that a refused rate is answered with.
+/// The player that a refused rate is answered with: it has ended, and has a start and a buffer of no
+/// channels, so that a start, a buffer and every block of it are refused.
 pub fn nobody() -> Player
     ensures { result ≡ nobody }
 {
@@ -230,7 +230,7 @@ pub fn nobody() -> Player
     }
 }
 
-// The player of a refused rate never plays.
+/// The player of a refused rate never plays (`NobodyPlays`).
 #[tactic(auto, using(crate::proofs::Mute::nobody_plays))]
 pub fn nobody_plays()
     ensures { NobodyPlays }

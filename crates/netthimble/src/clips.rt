@@ -3,7 +3,8 @@ ghost use Rattle.std.specs.Prelude.{◌≡◌, length};
 ghost use Rattle.buffer.specs.Answers.{answer_of, stored};
 ghost use Rattle.clip.specs.Reading.{clip_read, read_with_onset, frames_read, frames_read_with_onset, frames_out};
 ghost use Rattle.clip.specs.Writing.{length_to_write, clip_written, written};
-ghost use Rattle.netthimble.specs.ForC.{clip_for, onset_for, refusal_for, count_for};
+ghost use Rattle.lent.specs.Lent.{refusal_for};
+ghost use Rattle.netthimble.specs.ForC.{clip_for, onset_for, count_for};
 
 use super::{Count, Shaped, ShapedWithOnset};
 use buffer::{Refusal, Shape};
