@@ -22,7 +22,7 @@ use mathlib.Core.Logic.{inl, inr}
 use Rattle.obeying.specs.declared.Session.{Session}
 use Rattle.session.specs.declared.Fed.{Fed}
 use Rattle.obeying.specs.Obeying.{Outcome, obeyed}
-use Rattle.session.specs.Feeding.{Run, run, line_obeyed, ended, lengthened, extended, stepped, said, Progress, progress, advanced, fits_behind, feeding, fed, finished, fed_of, Moves}
+use Rattle.session.specs.Feeding.{Run, run, line_obeyed, ended, lengthened, extended, stepped, said, Progress, progress, advanced, fits_behind, feeding, fed, finished, after, spoken, fed_of, Moves}
 use Rattle.session.specs.Transcript.{lines_from, texts}
 use Rattle.session.specs.Statement.{Call, left, bytes, printed, long_enough, AnyCalls, calls_for, calls_of, joined, WholeInput, TranscriptOfChunks}
 use Rattle.session.proofs.Bytes.{said_fits}
@@ -58,22 +58,13 @@ unfolding obeyed
 cut_line samples s words n l h = rw (cut_command n l h)
 
 module _ (samples : List ℕ) where
-  -- ---- all of a list of bytes: what is carried after them, and what they print
-  after : Run → List ℕ → Run
-  after r [] = r
-  after r (b ∷ bs) = after (stepped samples r b) bs
-
-  spoken : Run → List ℕ → List ℕ
-  spoken r [] = []
-  spoken r (b ∷ bs) = said samples r b ++ spoken (stepped samples r b) bs
-
   -- the bytes of xs and then those of ys are the bytes of xs ++ ys
-  after-append : (r : Run) (xs ys : List ℕ) → after r (xs ++ ys) ≡ after (after r xs) ys
+  pub after-append : (r : Run) (xs ys : List ℕ) → after samples r (xs ++ ys) ≡ after samples (after samples r xs) ys
   unfolding after
   after-append r [] ys = refl
   after-append r (b ∷ xs) ys = after-append (stepped samples r b) xs ys
 
-  spoken_append : (r : Run) (xs ys : List ℕ) → spoken r (xs ++ ys) ≡ spoken r xs ++ spoken (after r xs) ys
+  pub spoken_append : (r : Run) (xs ys : List ℕ) → spoken samples r (xs ++ ys) ≡ spoken samples r xs ++ spoken samples (after samples r xs) ys
   unfolding after spoken
   spoken_append r [] ys = refl
   spoken_append r (b ∷ xs) ys = ap (λ (l : List ℕ). said samples r b ++ l) (spoken_append (stepped samples r b) xs ys) ∙ sym (append_assoc (said samples r b) _ _)
@@ -83,8 +74,8 @@ module _ (samples : List ℕ) where
     n : ℕ
     within : n ≤ length input
     count : g.taken ≡ f.taken + n
-    carried : g.run ≡ after f.run (take n input)
-    wrote : g.text ≡ f.text ++ spoken f.run (take n input)
+    carried : g.run ≡ after samples f.run (take n input)
+    wrote : g.text ≡ f.text ++ spoken samples f.run (take n input)
 
   none_taken : (f : Progress) (input : List ℕ) → Fronted f f input
   unfolding after spoken
@@ -101,7 +92,7 @@ module _ (samples : List ℕ) where
         within = omega (arith, h.within);
         count = omega (arith, h.count);
         carried = h.carried;
-        wrote = h.wrote ∙ append_assoc f.text (said samples f.run b) (spoken (stepped samples f.run b) (take h.n bs));
+        wrote = h.wrote ∙ append_assoc f.text (said samples f.run b) (spoken samples (stepped samples f.run b) (take h.n bs));
       }
       go false h = none_taken f (b ∷ bs)
 
@@ -109,11 +100,11 @@ module _ (samples : List ℕ) where
     fed_count : (fronted room (progress r 0 []) input).n ≡ (fed samples room r input).taken
     fed_count = omega (arith, (fronted room (progress r 0 []) input).count)
 
-    fed_run : (fed samples room r input).run ≡ after r (take (fed samples room r input).taken input)
-    fed_run = (fronted room (progress r 0 []) input).carried ∙ ap (λ n. after r (take n input)) fed_count
+    pub fed_run : (fed samples room r input).run ≡ after samples r (take (fed samples room r input).taken input)
+    fed_run = (fronted room (progress r 0 []) input).carried ∙ ap (λ n. after samples r (take n input)) fed_count
 
-    fed_text : (fed samples room r input).text ≡ spoken r (take (fed samples room r input).taken input)
-    fed_text = (fronted room (progress r 0 []) input).wrote ∙ ap (λ n. spoken r (take n input)) fed_count
+    pub fed_text : (fed samples room r input).text ≡ spoken samples r (take (fed samples room r input).taken input)
+    fed_text = (fronted room (progress r 0 []) input).wrote ∙ ap (λ n. spoken samples r (take n input)) fed_count
 
     -- what a caller goes by
     fed_within : (fed samples room r input).taken ≤ length input
@@ -138,26 +129,26 @@ module _ (samples : List ℕ) where
   fed_moves room r input f is = rw is (record { taken = fed_within room r input; printed = text_within room (progress r 0 []) input (omega arith); some = some_taken room r input })
 
   -- calls of `feed`, one after another
-  calls_run : (r : Run) (ks : List Call) → left samples r ks ≡ after r (bytes samples r ks)
+  calls_run : (r : Run) (ks : List Call) → left samples r ks ≡ after samples r (bytes samples r ks)
   unfolding left bytes after
   calls_run r [] = refl
   calls_run r (k ∷ ks) =
       let f = fed samples k.room r k.input in
-      calls_run f.run ks ∙ ap (λ (q : Run). after q (bytes samples f.run ks)) (fed_run k.room r k.input) ∙ sym (after-append r (take f.taken k.input) (bytes samples f.run ks))
+      calls_run f.run ks ∙ ap (λ (q : Run). after samples q (bytes samples f.run ks)) (fed_run k.room r k.input) ∙ sym (after-append r (take f.taken k.input) (bytes samples f.run ks))
 
-  calls_text : (r : Run) (ks : List Call) → printed samples r ks ≡ spoken r (bytes samples r ks)
+  calls_text : (r : Run) (ks : List Call) → printed samples r ks ≡ spoken samples r (bytes samples r ks)
   unfolding printed bytes spoken
   calls_text r [] = refl
   calls_text r (k ∷ ks) =
       let f = fed samples k.room r k.input in
       let rest = bytes samples f.run ks in
       ap (λ (l : List ℕ). f.text ++ l) (calls_text f.run ks)
-      ∙ ap (λ (l : List ℕ). l ++ spoken f.run rest) (fed_text k.room r k.input)
-      ∙ ap (λ (q : Run). spoken r (take f.taken k.input) ++ spoken q rest) (fed_run k.room r k.input)
+      ∙ ap (λ (l : List ℕ). l ++ spoken samples f.run rest) (fed_text k.room r k.input)
+      ∙ ap (λ (q : Run). spoken samples r (take f.taken k.input) ++ spoken samples q rest) (fed_run k.room r k.input)
       ∙ sym (spoken_append r (take f.taken k.input) rest)
 
   -- ---- the slice holds the line so far, cut to its length
-  record Kept (r : Run) (front : List ℕ) : Type 0 where
+  pub record Kept (r : Run) (front : List ℕ) : Type 0 where
     wide : long_enough ≤ length r.line
     used : r.len ≡ min (length front) (length r.line)
     held : take r.len r.line ≡ take (length r.line) front
@@ -212,20 +203,20 @@ module _ (samples : List ℕ) where
           rw (ne_eqb r.len 0 (λ e. q refl (omega (arith, k.used, k.wide))))
           (ap (λ (o : Outcome). o.reply.text) (obeyed_kept r front k) ∙ sym (append-nil _))
 
-  spoken_lines : (r : Run) (front bs : List ℕ) → Kept r front → spoken r bs ++ (finished samples (after r bs)).reply.text ≡ texts samples r.session r.words (lines_from front bs)
+  pub spoken_lines : (r : Run) (front bs : List ℕ) → Kept r front → spoken samples r bs ++ (finished samples (after samples r bs)).reply.text ≡ texts samples r.session r.words (lines_from front bs)
   unfolding after spoken stepped said ended extended lines_from texts
   spoken_lines r front [] k = last_line r front k
   spoken_lines r front (b ∷ bs) k =
       go (eqb b NEWLINE) (spoken_lines (ended samples r) [] bs (ended_kept r front k)) (spoken_lines (extended r b) (front ++ (b ∷ [])) bs (more_kept r front b k))
     where
-      go : (t : Bool) → spoken (ended samples r) bs ++ (finished samples (after (ended samples r) bs)).reply.text ≡ texts samples (ended samples r).session (ended samples r).words (lines_from [] bs)
-          → spoken (extended r b) bs ++ (finished samples (after (extended r b) bs)).reply.text ≡ texts samples r.session r.words (lines_from (front ++ (b ∷ [])) bs)
-          → (cond t (line_obeyed samples r).reply.text [] ++ spoken (cond t (ended samples r) (extended r b)) bs) ++ (finished samples (after (cond t (ended samples r) (extended r b)) bs)).reply.text
+      go : (t : Bool) → spoken samples (ended samples r) bs ++ (finished samples (after samples (ended samples r) bs)).reply.text ≡ texts samples (ended samples r).session (ended samples r).words (lines_from [] bs)
+          → spoken samples (extended r b) bs ++ (finished samples (after samples (extended r b) bs)).reply.text ≡ texts samples r.session r.words (lines_from (front ++ (b ∷ [])) bs)
+          → (cond t (line_obeyed samples r).reply.text [] ++ spoken samples (cond t (ended samples r) (extended r b)) bs) ++ (finished samples (after samples (cond t (ended samples r) (extended r b)) bs)).reply.text
           ≡ texts samples r.session r.words (cond t (front ∷ lines_from [] bs) (lines_from (front ++ (b ∷ [])) bs))
-      go true h g = append_assoc (line_obeyed samples r).reply.text (spoken (ended samples r) bs) _ ∙ ap (λ (l : List ℕ). (line_obeyed samples r).reply.text ++ l) h ∙ ap (λ (o : Outcome). o.reply.text ++ texts samples o.reply.session o.words (lines_from [] bs)) (obeyed_kept r front k)
+      go true h g = append_assoc (line_obeyed samples r).reply.text (spoken samples (ended samples r) bs) _ ∙ ap (λ (l : List ℕ). (line_obeyed samples r).reply.text ++ l) h ∙ ap (λ (o : Outcome). o.reply.text ++ texts samples o.reply.session o.words (lines_from [] bs)) (obeyed_kept r front k)
       go false h g = g
 
-  none_kept : (s : Session) (line words : List ℕ) → long_enough ≤ length line → Kept (run s line 0 words) []
+  pub none_kept : (s : Session) (line words : List ℕ) → long_enough ≤ length line → Kept (run s line 0 words) []
   none_kept s line words wide = record { wide = wide; used = omega arith; held = sym (take-nil (length line)) }
 
 pub any_calls : AnyCalls

@@ -45,6 +45,15 @@ stepped samples r b = cond (eqb b NEWLINE) (ended samples r) (extended r b)
 unfoldable pub said : List ℕ → Run → ℕ → List ℕ
 said samples r b = cond (eqb b NEWLINE) (line_obeyed samples r).reply.text []
 
+-- ---- all of a list of bytes: what is carried after them, and what they print
+unfoldable pub after : List ℕ → Run → List ℕ → Run
+after samples r [] = r
+after samples r (b ∷ bs) = after samples (stepped samples r b) bs
+
+unfoldable pub spoken : List ℕ → Run → List ℕ → List ℕ
+spoken samples r [] = []
+spoken samples r (b ∷ bs) = said samples r b ++ spoken samples (stepped samples r b) bs
+
 -- ---- bytes, one after another: what is carried, how many were taken, and the text printed so far
 pub record Progress : Type 0 where
   pub run : Run

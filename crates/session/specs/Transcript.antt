@@ -1,5 +1,5 @@
 -- The lines of an input, and the text of a whole run (document 01, '`trial`': 'then obeys lines of standard input'). Definitions only.
-use Rattle.std.specs.Prelude.{cond, List, [], ◌∷◌, ◌++◌, ℕ, eqb, length}
+use Rattle.std.specs.Prelude.{cond, List, [], ◌∷◌, ◌++◌, ℕ, eqb, length, replicate}
 use Rattle.text.specs.Lines.{NEWLINE}
 use Rattle.obeying.specs.Obeying.{obeyed}
 use Rattle.obeying.specs.declared.Session.{Session}
@@ -21,3 +21,7 @@ texts samples s words (l ∷ ls) =
 
 abbrev pub transcript : List ℕ → Session → List ℕ → List ℕ → List ℕ
 transcript samples s words input = texts samples s words (lines input)
+
+-- the block output before the first block: 32 channels of 128 words, all zero
+abbrev pub no_words : List ℕ
+no_words = replicate 4096 0

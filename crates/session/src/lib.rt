@@ -3,11 +3,13 @@
 #![tactic(auto)]
 
 mod feeding;
+mod running;
 
 ghost use Rattle.session.specs.Statement.{TranscriptOfChunks};
 
 pub use feeding::{feed, finish};
 use obeying::Session;
+pub use running::{run, write_front};
 
 // What is carried from byte to byte of the input: the session, and the length of the line so far.
 // The line's bytes stand in a slice of any length that the caller lends: a buffer of its own
