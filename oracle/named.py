@@ -1,11 +1,13 @@
-"""Scripts chosen by hand, at least one for each rule of document 01. `named()` gives (name, units), `in_cents()` those
-of document 02, 2.1, `previews()` those of 2.2 and `conversions()` those of 2.4.
+"""Scripts chosen by hand, at least one for each rule of docs/REFERENCE.md. `named()` gives (name, units), `in_cents()` those with calls in cents,
+`previews()` those with previews and `conversions()` those of conversion.
 
-Where a name begins with `panic: ` the original panics (document 01's excepted cases); these are not recorded.
+Where a name begins with `panic: ` the original panics (docs/REFERENCE.md, 'Scope and judges'); these are not recorded.
 """
 import math
 
-from scripts import MAX, TWO_64, f32, previewed, words_text, x32, x64, xi32
+from scripts import MAX, TWO_64, previewed, words_text, xi32
+
+from shared.bits import x32, x64
 
 RATE = 48000.0
 DT = 1 / RATE
@@ -311,7 +313,7 @@ def buffers():
     yield "extend refused", [R(), f"J 0 0 {r} 1 0 {r}", f"J 1 0 {r} 33 0 {r}", f"J 1 0 00000000 1 0 {r}", f"J 1 0 {r} 1 0 7FC00000", f"J 1 0 {r} 1 0 {other}",
                              f"J 1 0 {r} 2 0 {r}", f"J 2 0 {r} 1 0 00000000"]
     yield "split", [R(), *(words(f"V 2 3 {r} {s}", *ramp(3), *ramp(3, 11.0)) for s in (0, 1, 3)), f"V 1 0 {r} 0"]
-    yield "split refused", [R(), f"V 1 0 00000000 9", f"V 1 0 {r} 1", words(f"V 1 2 {r} 3", 1.0, 2.0), f"V 0 2 {r} 0"]
+    yield "split refused", [R(), "V 1 0 00000000 9", f"V 1 0 {r} 1", words(f"V 1 2 {r} 3", 1.0, 2.0), f"V 0 2 {r} 0"]
     yield "convert 24,000 to 48,000", [R(), words(f"Q 1 2 {x32(24000.0)} {r}", 0.0, 3.0)]
     yield "convert relabels within 0.1", [R(), words(f"Q 1 2 {r} {x32(48000.09375)}", "7F800001", 3.0), words(f"Q 1 2 {r} {x32(47999.90625)}", 1.0, 2.0)]
     yield "convert beyond 0.1", [R(), words(f"Q 1 2 {r} {x32(48000.1015625)}", 1.0, 3.0)]

@@ -1,10 +1,12 @@
-"""Scripts chosen by hand for document 02, 2.7: `tolerances()` gives (name, units). Each near test, and relabelling, has tolerances at
-which it decides otherwise than at the default, the largest at which it says no (for relabelling, the smallest at which it says yes)
-and the next one.
+"""Scripts chosen by hand for docs/REFERENCE.md, 'Near tests and tolerances': `tolerances()` gives (name, units). Each near test, and relabelling, has
+tolerances at which it decides otherwise than at the default, the largest at which it says no (for relabelling, the smallest at which it says
+yes) and the next one.
 """
 from named import B, C, D, DOWN, DT, E, INF, NAN, P, R, RATE, S, T, UP, Q, blocks, cents, hexes, looked, ramp, words
-from scripts import words_text, x32, x64
+from scripts import words_text
 from tolerances import BAD_32, BAD_64, last_not_near, moved32, words_of
+
+from shared.bits import x32, x64
 
 DEFAULT = 2.0**-26
 BAT = 768000.0

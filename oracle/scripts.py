@@ -9,6 +9,8 @@ import struct
 
 from tolerances import Tuner, relabel_distance
 
+from shared.bits import single, x32, x64
+
 MAX = 1.7976931348623157e308
 TWO_64 = 2.0**64
 RATES = [48000.0] * 6 + [44100.0] * 3 + [96000.0, 8000.0, 3000.0, 768000.0, 22050.0, 24000.0, 16000.0, 192000.0]
@@ -34,18 +36,6 @@ BAD_BLOCK_LINES = ["B", "B 0 0 0", "b 0000000000000000 3F800000 3FF0000000000000
 PREVIEWS = str.maketrans("BDbd", "MNmn")
 LAST_FRAMES = ["7F800001", "FFC12345", "7FFFFFFF", "7F800000", "FF800000", "80000000", "00000000", "80000001", "7F7FFFFF"]
 LARGEST_CONVERSION = 1000  # words of the result of one that is strewn in
-
-
-def f32(x):
-    return struct.unpack("<f", struct.pack("<f", x))[0]
-
-
-def x32(x):
-    return struct.pack(">f", x).hex().upper()
-
-
-def x64(x):
-    return struct.pack(">d", x).hex().upper()
 
 
 def xi32(n):
@@ -147,7 +137,7 @@ class Generator:
             return self.rng.choice(RATES)
         if r < 0.9:
             return self.rng.choice(ODD_RATES)
-        return f32(self.rng.uniform(3000, 768000))
+        return single(self.rng.uniform(3000, 768000))
 
     def length(self):
         return self.rng.choice(LENGTHS) if self.rng.random() < 0.7 else self.rng.randint(1, 600)
@@ -163,8 +153,8 @@ class Generator:
         if r < 0.75:
             return self.rng.choice(PLAY_RATES)
         if r < 0.9:
-            return f32(self.rng.uniform(-3, 3))
-        return f32(self.rng.choice([1, -1]) * 10 ** self.rng.uniform(-12, 8))
+            return single(self.rng.uniform(-3, 3))
+        return single(self.rng.choice([1, -1]) * 10 ** self.rng.uniform(-12, 8))
 
     def factor(self):
         r = self.rng.random()
@@ -353,7 +343,7 @@ class Generator:
         else:
             r = rng.random()
             if r < 0.3:
-                other = f32(rate + rng.choice([0.09375, 0.1015625, 0.1, -0.1, 0.05, 0.2]))
+                other = single(rate + rng.choice([0.09375, 0.1015625, 0.1, -0.1, 0.05, 0.2]))
             elif r < 0.35:
                 other = rng.choice([2999.0, 768001.0])
             elif r < 0.5:
@@ -383,17 +373,17 @@ class Generator:
         if kind == "single":
             n = min(n, rng.randint(1, 5))
             rate = max(n * 3000.0, self.rate())
-            other = self.beside(f32(rate / n)) if rng.random() < 0.5 else f32(rng.uniform(3000, rate / n))
+            other = self.beside(single(rate / n)) if rng.random() < 0.5 else single(rng.uniform(3000, rate / n))
         elif kind == "multiple":
             times = rng.choice([2, 2, 3, 4, 6, 7, 16])
-            rate = rng.choice([8000.0, 3000.0, 16000.0, 48000.0, f32(rng.uniform(3000, 48000))])
-            rate, other = self.beside(rate), self.beside(f32(rate * times))
+            rate = rng.choice([8000.0, 3000.0, 16000.0, 48000.0, single(rng.uniform(3000, 48000))])
+            rate, other = self.beside(rate), self.beside(single(rate * times))
             if rng.random() < 0.5:
                 rate, other = other, rate
         elif kind == "ordinary":
             rate, other = self.rate(), self.rate()
         elif kind == "near":
-            other = min(max(f32(rate + rng.choice([1, -1]) * rng.choice([0.1015625, 0.125, 0.5, 0.09375])), 3000.0), 768000.0)
+            other = min(max(single(rate + rng.choice([1, -1]) * rng.choice([0.1015625, 0.125, 0.5, 0.09375])), 3000.0), 768000.0)
         if c * n * other / rate > LARGEST_CONVERSION:
             c, n = 1, min(n, 3)
         words = self.frames(c * n).split()

@@ -1,4 +1,4 @@
-"""Tolerances for the scripts of scripts.py (document 02, 2.7): those of a player on its `R` line, those of a conversion on its `Q` line.
+"""Tolerances for the scripts of scripts.py: those of a player on its `R` line, those of a conversion on its `Q` line.
 
 Some are beside a difference that occurs in the script, the last one at which a test says no or the first at which it says yes. Which
 differences occur is found by a walk along the samples with nothing taken as near: until the first near test says yes, a player that
@@ -6,6 +6,8 @@ has such a tolerance goes the same way.
 """
 import math
 import struct
+
+from shared.bits import f32, f64, x32, x64
 
 MAX = 1.7976931348623157e308
 DEFAULTS = (2.0**-26, 2.0**-26, 0.1)
@@ -16,22 +18,6 @@ UP, DOWN = (lambda x: math.nextafter(x, math.inf)), (lambda x: math.nextafter(x,
 BAD_64 = ["7FF8000000000000", "7FF0000000000001", "FFF8000000000000", "7FF0000000000000", "FFF0000000000000", "3FF0000000000001",
           "4000000000000000", "7FEFFFFFFFFFFFFF", "8000000000000001", "BFF0000000000000"]
 BAD_32 = ["7FC00000", "7F800001", "FFC00000", "7F800000", "FF800000", "3F800001", "40000000", "7F7FFFFF", "80000001", "BF800000"]
-
-
-def x32(x):
-    return struct.pack(">f", x).hex().upper()
-
-
-def x64(x):
-    return struct.pack(">d", x).hex().upper()
-
-
-def f32(word):
-    return struct.unpack(">f", bytes.fromhex(word))[0]
-
-
-def f64(word):
-    return struct.unpack(">d", bytes.fromhex(word))[0]
 
 
 def moved32(x, steps):

@@ -4,42 +4,13 @@
    players that stand before the first 256 blocks of a run, and `-shown` the block call on copies of them. `-ahead` is a preview
    before each block of a run, and `-twin` what a block takes in its place: the block call of a second player beside the first. */
 #include <math.h>
-#include <netthimble.h>
-#include <stdio.h>
-#include <stdlib.h>
-#include <string.h>
-#include <time.h>
+#include "measure.h"
 
 extern bool player_blocks(uint32_t *out, size_t out_len, const uint32_t *samples, size_t samples_len, size_t channels, size_t frames, bool looped, float rate, size_t blocks);
 
 enum { BLOCKS = 4000, STATES = 256, MILLION = 1000000 };
 static const float RATE = 48000.0f;
 static uint32_t out[4096], second[4096];
-
-static double now(void) {
-    struct timespec t;
-    clock_gettime(CLOCK_MONOTONIC, &t);
-    return t.tv_sec * 1e9 + t.tv_nsec;
-}
-
-/* Noise between -1 and 1, or the whole numbers from 0 on. */
-static uint32_t *frames_of(size_t count, bool noise) {
-    uint32_t state = 1, *words = malloc(4 * count);
-    if (!words) abort();
-    for (size_t i = 0; i < count; i++) {
-        state = state * 1664525u + 1013904223u;
-        float f = noise ? (float)(int32_t)state / 2147483648.0f : (float)i;
-        memcpy(words + i, &f, 4);
-    }
-    return words;
-}
-
-static void must(uint32_t refusal) {
-    if (refusal) {
-        fprintf(stderr, "bench: refused with %u\n", (unsigned)refusal);
-        exit(1);
-    }
-}
 
 /* A player that has played nothing yet. */
 static netthimble_player begun(size_t channels, size_t frames, bool looped, const uint32_t *words) {

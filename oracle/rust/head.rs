@@ -1,4 +1,4 @@
-// The crate root of the oracle. `oracle/build` writes the original's src/lib.rs after this text, without
+// The crate root of the oracle. `oracle/build.py` writes the original's src/lib.rs after this text, without
 // its inner attributes and its module lines: limits, AtomicF64 and the assertions are the original's.
 
 mod buffer; // the original's

@@ -1,4 +1,4 @@
-//! Counts which way each condition of the instrumented copy went (`oracle/build --reach`). Unused, and
+//! Counts which way each condition of the instrumented copy went (`oracle/build.py --reach`). Unused, and
 //! empty, in the plain oracle.
 use std::cell::RefCell;
 

@@ -1,4 +1,4 @@
-//! The oracle program: reads the lines of oracle/PROTOCOL.md, refuses by document 01's table, and drives
+//! The oracle program: reads the lines of oracle/PROTOCOL.md, refuses by docs/REFERENCE.md, 'Refusals', and drives
 //! the original with everything else.
 mod bench;
 mod buffers;
@@ -251,7 +251,7 @@ impl Machine {
             &mut copy
         };
         let Ok(keep) = catch_unwind(AssertUnwindSafe(|| player.process(time, rate, factor))) else {
-            assert!(player.may_panic(), "a panic outside document 01's excepted cases");
+            assert!(player.may_panic(), "a panic outside the excepted cases");
             self.out.extend_from_slice(b"P\n");
             self.player = None;
             self.panicked = true;

@@ -5,16 +5,15 @@
 
     check = Checks("tape")                       # counts; prints each that fails
 
-    def main(seed):
+    def main():
         if not library():                        # tools/build_library; says so where there is no C compiler
             return 0
         check("a name", 1 + 1 == 2, "why not")
         return check.ended()                     # prints 'tape: 1 passed, 0 failed'; the script's status
 
     if __name__ == "__main__":
-        words = options(__doc__)                 # argparse: --help prints the script's first words
-        words.add_argument("seed", nargs="?", type=int)
-        sys.exit(main(words.parse_args().seed))
+        options(__doc__).parse_args()            # argparse: --help prints the script's docstring
+        sys.exit(main())
 
 shared.bits has the bit patterns of floats, shared.comparing what tools measure and compare builds by. Clips, lines and what `trial` prints for them
 are tests/transcripts.py's: a script of tests/ writes `import transcripts`. No script loads another by its path.
@@ -25,15 +24,25 @@ import os
 import shutil
 import subprocess
 import sys
+import time
 from pathlib import Path
 
 TOP = Path(__file__).resolve().parent.parent.parent
 CC = os.environ.get("CC", "cc")
+ORACLE = TOP / "target/oracle/replay"  # the Rust original, where oracle/build.py has built it
 
 
 def options(doc):
     """A parser of the command's words, whose --help begins with the script's docstring."""
     return argparse.ArgumentParser(description=doc, formatter_class=argparse.RawDescriptionHelpFormatter)
+
+
+def seeds(doc):
+    """The seeds of a test on random cases: 1, and the command's SEED or else the time."""
+    words = options(doc)
+    words.add_argument("seed", metavar="SEED", nargs="?", type=int, help="the random cases are made by the seeds 1 and SEED; without it, by the time")
+    given = words.parse_args().seed
+    return 1, int(time.time()) if given is None else given
 
 
 class Checks:

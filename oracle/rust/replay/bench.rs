@@ -86,7 +86,7 @@ fn copies() {
     println!("copy-from-channel {copy_from}\ncopy-to-channel {copy_to}");
 }
 
-/// The original's own, which reads elsewhere than document 02, 2.4.
+/// The original's own, which reads elsewhere than docs/REFERENCE.md, 'Conversion'.
 fn conversions() {
     for channels in [1, 2, 8] {
         let buffer = shape(channels, MILLION, 44_100.0).buffer(&words(channels * MILLION, true));

@@ -1,4 +1,4 @@
-//! Random lists of blocks and loop messages under the premises of document 02, 2.6 (tape.rs).
+//! Random lists of blocks and loop messages under the premises of docs/REFERENCE.md, 'The loop switch' (tape.rs).
 use super::buffers::Shape;
 use super::tape::Tape;
 
@@ -266,7 +266,7 @@ impl Making {
         }
     }
 
-    /// Lines whose last is refused by the table of document 01, and its number.
+    /// Lines whose last is refused by docs/REFERENCE.md, 'Refusals', and its number.
     fn refused(&self, random: &mut Random, time: f64) -> (String, u8) {
         let (bad, below) = (random.not_finite(), -random.fraction() - 1.0);
         let either = random.pick(&[bad, below]);

@@ -109,7 +109,7 @@ impl Player {
         renderer.process(&[], &mut self.outputs, params, &scope)
     }
 
-    /// After a panic of `process`: whether it is one of the two cases of document 01, 'Aligned block'. The
+    /// After a panic of `process`: whether it is one of the two cases of docs/REFERENCE.md, 'Scope and judges'. The
     /// position is still the one before the block.
     pub fn may_panic(&self) -> bool {
         let state = self.state();

@@ -52,7 +52,7 @@ pub fn bits(sample: &f32) -> u32 {
     sample.to_bits()
 }
 
-/// A calculated NaN is 7FC00000 (document 01, 'Rounding').
+/// A calculated NaN is 7FC00000 (docs/REFERENCE.md, 'Rounding').
 pub fn calculated(sample: &f32) -> u32 {
     if sample.is_nan() {
         NAN

@@ -1,14 +1,14 @@
-//! Document 02, 2.4: the frames of a conversion by a real change. The original reads them elsewhere, so they come from the
-//! words of 2.4 and the processor's floats.
+//! The frames of a conversion by a real change (docs/REFERENCE.md, 'Conversion'). The original reads them elsewhere, so they come
+//! from its words and the processor's floats.
 use super::print::calculated;
 
-/// 'Frame i is read at i × source rate / target rate, worked in f64 with the product first.'
+/// Frame i is read at its own instant in the original: i times the source's rate, then by the target's, in f64.
 pub fn resampled(frames: &[f32], source: f32, target: f32, length: usize) -> Vec<f32> {
     let position = |i: usize| i as f64 * source as f64 / target as f64;
     (0..length).map(|i| read(frames, position(i))).collect()
 }
 
-/// 'A read at a position above N − 1 gives the last frame's bits, unweighted.' Any other is (1 − k) × the frame + k × the next
+/// Above N − 1 the last frame's bits stand as they are. Any other read is (1 − k) × the frame + k × the next
 /// (or last), each step rounded to f32, where k is the fraction narrowed to f32.
 fn read(frames: &[f32], position: f64) -> f32 {
     let last = frames.len() - 1;

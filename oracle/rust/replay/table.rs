@@ -1,4 +1,4 @@
-//! Document 01's table 'Where a call is turned down', and document 02's rows 16 and 18. A refusal is the row's number;
+//! The rows of docs/REFERENCE.md, 'Refusals'. A refusal is the row's number;
 //! 0 is a line that isn't one of the protocol's.
 use super::buffers::Shape;
 
@@ -54,7 +54,7 @@ pub fn row_16_cents(cents: i32) -> Result<(), Refusal> {
     check((-12_000..=12_000).contains(&cents), 16)
 }
 
-/// '18 if a tolerance is not finite or is outside 0 to 1'; −0 is not outside.
+/// A tolerance is finite, and from 0 to 1; −0 is not below 0.
 pub fn row_18_tolerance(value: f64) -> Result<(), Refusal> {
     check(value.is_finite() && !(value < 0.0 || value > 1.0), 18)
 }

@@ -1,5 +1,5 @@
-//! `replay tape SEED LISTS`: the loop switch during playback (document 02, 2.6). Random lists of
-//! blocks and loop messages (lists.rs) are played on the original and followed by the tape of 2.6.
+//! `replay tape SEED LISTS`: the loop switch during playback. Random lists of blocks and loop messages
+//! (lists.rs) are played on the original and followed by the tape of docs/REFERENCE.md, 'The loop switch'.
 use super::lists::{list, Call, List, Random};
 use super::table::row_13_block_time;
 use super::tolerances::Tolerances;
@@ -10,7 +10,7 @@ use std::panic::{catch_unwind, AssertUnwindSafe};
 const FRAMES: usize = 128;
 const NOT_REFUSED: &str = "not refused";
 
-/// 'The tape it follows has a number p, from 0.'
+/// The tape and its number p, from 0; L is its length.
 pub struct Tape {
     length: usize,
     pub p: usize,
@@ -29,37 +29,37 @@ impl Tape {
 
     /// The frame that the next sample plays; none where it gives zero.
     fn sample(&mut self) -> Option<usize> {
-        // 'Once ended, the tape gives zeros for good, loop messages or not.'
+        // once ended, zeros for good, whatever loop messages come
         if self.ended {
             return None;
         }
-        // 'For each sample: below L, play frame p and add 1;'
+        // below L: frame p, and p grows by 1
         if self.p < self.length {
             self.p += 1;
             return Some(self.p - 1);
         }
-        // 'else, looped, play frame 0, set p to 1 and note a wrap;'
+        // else, looped: frame 0, p becomes 1, and a wrap is noted
         if self.looped {
             self.p = 1;
             self.wrap = true;
             self.wraps += 1;
             return Some(0);
         }
-        // 'else give zero and add 1.'
+        // else zero, and p grows by 1
         self.p += 1;
         None
     }
 
     pub fn block(&mut self) -> [Option<usize>; FRAMES] {
         let played = [(); FRAMES].map(|()| self.sample());
-        // 'An unlooped block that finishes with p above L ends the player,'
+        // a block with the loop off that finishes with p above L has ended the player
         if !self.looped && self.p > self.length {
             self.ended = true;
         }
-        // 'and nothing earlier does except an exact fit. If an unlooped block finishes with p
-        // exactly L, that block or the next one ends the player;' (the next finishes above L)
+        // and nothing ends it earlier but an exact fit, p = L: that block ends it, or the next one
+        // does (which finishes above L)
         self.fit = !self.looped && self.p == self.length;
-        // 'At a block's end, p = L with a wrap noted becomes 0; the note is cleared.'
+        // p = L with a wrap noted in this block becomes 0
         if self.p == self.length && self.wrap {
             self.p = 0;
         }
@@ -67,7 +67,7 @@ impl Tape {
         played
     }
 
-    /// 'it is a premise that the list has no loop-on message between these two blocks.'
+    /// The premise: no loop-on message comes between an exact fit and the next block.
     pub fn shuts_out(&self, on: bool) -> bool {
         on && self.fit
     }
@@ -101,7 +101,7 @@ fn distance(position: f64, rate: f32, p: usize) -> Option<(u128, u32)> {
     Some((product.abs_diff((p as u128) << scale), scale))
 }
 
-/// 'Sample bits follow the tape for the whole list,'
+/// Every sample has the bits of the tape's frame.
 fn heard(list: &List, channels: &[Channel], played: &[Option<usize>]) -> Result<(), String> {
     for (c, samples) in channels.iter().enumerate() {
         for (i, (sample, frame)) in samples.iter().zip(played).enumerate() {
@@ -115,7 +115,7 @@ fn heard(list: &List, channels: &[Channel], played: &[Option<usize>]) -> Result<
     Ok(())
 }
 
-/// 'and until the end the position is within 1/1024 frame of p.'
+/// The position is within 1/1024 frame of p.
 fn near(position: f64, rate: f32, p: usize, tally: &mut Tally) -> Result<(), String> {
     let (apart, scale) =
         distance(position, rate, p).ok_or_else(|| format!("position {position:e}, p {p}"))?;
@@ -145,7 +145,7 @@ fn block(
     tally.fits += tape.fit as u64;
     tally.at_once += (tape.fit && state.ended) as u64;
     tally.by_next += (had_fit && state.ended && !had_ended) as u64;
-    // document 01: a block begun before the player ended answers the clip's channels, else 1
+    // a block begun before the player ended answers the clip's channels, else 1
     let channels = player.outputs[0].channels();
     let answered = if had_ended { 1 } else { list.channels };
     if channels.len() != answered {

@@ -1,5 +1,5 @@
-//! Document 02, 2.7: 'the near tolerance, the near-zero tolerance and the relabel distance become a record that a player is made
-//! with and keeps, a conversion is handed, and every near test receives'.
+//! The record of near, near zero and the relabel distance, which a player is made with and keeps, and a conversion is handed
+//! (docs/REFERENCE.md, 'Near tests and tolerances').
 use super::table::{row_18_tolerance, Refusal};
 use super::text::Words;
 
@@ -11,7 +11,7 @@ pub struct Tolerances {
 }
 
 impl Default for Tolerances {
-    /// 'Defaults are 2^-26, 2^-26 and 0.1 as f32.'
+    /// 2^-26, 2^-26 and 0.1 as f32.
     fn default() -> Self {
         Tolerances {
             near: 1.0 / 67_108_864.0,
@@ -34,7 +34,7 @@ impl Tolerances {
         })
     }
 
-    /// 'Checks: 18 .. when settings are made.'
+    /// The record, or 18.
     pub fn made(self) -> Result<Self, Refusal> {
         row_18_tolerance(self.near)?;
         row_18_tolerance(self.near_zero)?;

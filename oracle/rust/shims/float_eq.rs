@@ -1,5 +1,5 @@
 //! Stand-in for the crate `float_eq`, in the one form that buffer.rs uses: f32 subtraction, then the magnitude against the relabel
-//! distance of document 02, 2.7, an f32 too, which is put before the original is called. The bound that the original writes there,
+//! distance (docs/REFERENCE.md, 'Near tests and tolerances'), an f32 too, which is put before the original is called. The bound that the original writes there,
 //! 0.1, is not read.
 use std::cell::Cell;
 

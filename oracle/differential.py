@@ -1,29 +1,26 @@
 #!/usr/bin/env python3
 """Runs random scripts through two programs that speak the replay protocol and compares the answers.
 
-Usage: oracle/differential --subject CMD [--oracle CMD] [--seed N] [--scripts N] [--batch N] [--first]
-
-A batch of scripts (2,000) is one input of both programs; about 4 KB a script.
+A batch of scripts is one input of both programs; about 4 KB a script.
 
 Where the oracle answers `P` (the original panicked) the rest of that script is skipped. The first script
-whose answers differ is made as small as possible and printed, with both answers (--first: the run stops after the
-batch in which it stands, and prints it as it is). The last line is
+whose answers differ is made as small as possible and printed, with both answers. The last line is
     N scripts, N with tolerances, N blocks, N calls in cents, N previews, N copies, N conversions, N to one frame, N panics, N differences
 where scripts with tolerances have lines `R` or `Q` that name some, calls in cents are lines `D` and previews lines `M` and `N`,
 refused ones with them, conversions are those by a real change, and the exit status is 1 where something differs.
 """
-import argparse
 import shlex
 import subprocess
 import sys
 import threading
 from pathlib import Path
 
-ROOT = Path(__file__).resolve().parent.parent
-sys.path.insert(0, str(ROOT / "oracle"))
-sys.dont_write_bytecode = True
-from scripts import Generator, converted_frames, words_text, x32, x64, MAX  # noqa: E402
-from tolerances import DEFAULTS, has_own, words_of  # noqa: E402
+sys.path.insert(0, str(Path(__file__).resolve().parent.parent / "tools"))
+from scripts import MAX, Generator, converted_frames, words_text
+from tolerances import DEFAULTS, has_own, words_of
+
+from shared import ORACLE, options
+from shared.bits import x32, x64
 
 MARK = "# @"
 
@@ -161,42 +158,20 @@ def show(sides, units):
             break
 
 
-def main():
-    options = argparse.ArgumentParser(description=__doc__, formatter_class=argparse.RawTextHelpFormatter)
-    options.add_argument("--oracle", default=shlex.quote(str(ROOT / "target" / "oracle" / "replay")))
-    options.add_argument("--subject", required=True)
-    options.add_argument("--seed", type=int, default=1)
-    options.add_argument("--scripts", type=int, default=100000)
-    options.add_argument("--batch", type=int, default=2000)
-    options.add_argument("--first", action="store_true")
-    options = options.parse_args()
-    sides = [Side(options.oracle), Side(options.subject)]
-    generator = Generator(options.seed)
-    names = ["scripts", "with tolerances", "blocks", "calls in cents", "previews", "copies", "conversions", "to one frame", "panics", "differences"]
-    counts = dict.fromkeys(names, 0)
-    first = None
+class Run:
+    """Random scripts through both sides, batch by batch, and what was counted."""
 
-    def compare(scripts, one, other):
-        nonlocal first
-        if sides[0].failed:
-            sys.exit("differential: the oracle itself failed")
-        counts["scripts"] += len(scripts)
-        counts["blocks"] += one.count(b"\nB ")
-        if one == other and b"\nP\n" not in one:
-            return
-        one, other = parts(one), parts(other)
-        for i, units in enumerate(scripts):
-            ours = other[i] if i < len(other) else ""
-            same, panicked = compared(one[i] if i < len(one) else "", ours)
-            counts["panics"] += panicked
-            if not same:
-                counts["differences"] += 1
-                first = first or units
+    NAMES = ["scripts", "with tolerances", "blocks", "calls in cents", "previews", "copies", "conversions", "to one frame", "panics", "differences"]
 
-    def batch():
-        size = min(options.batch, options.scripts - made[0])
-        made[0] += size
-        scripts = [generator.script() for _ in range(size)]
+    def __init__(self, sides, seed, scripts, batch):
+        self.sides, self.generator, self.left, self.size = sides, Generator(seed), scripts, batch
+        self.counts, self.first = dict.fromkeys(self.NAMES, 0), None
+
+    def batch(self):
+        """The next scripts, counted."""
+        size = min(self.size, self.left)
+        self.left -= size
+        scripts, counts = [self.generator.script() for _ in range(size)], self.counts
         counts["with tolerances"] += sum(any(map(has_own, units)) for units in scripts)
         counts["calls in cents"] += sum(unit.startswith("D ") for units in scripts for unit in units)
         counts["previews"] += sum(unit.startswith(("M ", "N ")) for units in scripts for unit in units)
@@ -204,20 +179,52 @@ def main():
         lengths = [length for units in scripts for length in map(converted_frames, units) if length]
         counts["conversions"] += len(lengths)
         counts["to one frame"] += lengths.count(1)
-        return scripts, stream(scripts)
+        return scripts
 
-    made = [0]
-    scripts, data = batch()
-    while scripts and not (options.first and first):
-        for side in sides:
-            side.begin(data)
-        following, data = batch()  # made while the programs run
-        compare(scripts, *(side.answer() for side in sides))
-        scripts = following
-    if first:
-        show(sides, first if options.first else shrink(sides, first))
-    print(", ".join(f"{count} {name}" for name, count in counts.items()))
-    sys.exit(1 if counts["differences"] else 0)
+    def compare(self, scripts, one, other):
+        """Counts where the answers differ, and keeps the first script where they do."""
+        if self.sides[0].failed:
+            sys.exit("differential: the oracle itself failed")
+        self.counts["scripts"] += len(scripts)
+        self.counts["blocks"] += one.count(b"\nB ")
+        if one == other and b"\nP\n" not in one:
+            return
+        one, other = parts(one), parts(other)
+        for i, units in enumerate(scripts):
+            ours = other[i] if i < len(other) else ""
+            same, panicked = compared(one[i] if i < len(one) else "", ours)
+            self.counts["panics"] += panicked
+            if not same:
+                self.counts["differences"] += 1
+                self.first = self.first or units
+
+    def all(self, stop_at_first):
+        """Every batch, or those up to the first difference."""
+        scripts = self.batch()
+        while scripts and not (stop_at_first and self.first):
+            for side in self.sides:
+                side.begin(stream(scripts))
+            following = self.batch()  # made while the programs run
+            self.compare(scripts, *(side.answer() for side in self.sides))
+            scripts = following
 
 
-main()
+def main(given):
+    sides = [Side(given.oracle), Side(given.subject)]
+    run = Run(sides, given.seed, given.scripts, given.batch)
+    run.all(given.first)
+    if run.first:
+        show(sides, run.first if given.first else shrink(sides, run.first))
+    print(", ".join(f"{count} {name}" for name, count in run.counts.items()))
+    return 1 if run.counts["differences"] else 0
+
+
+if __name__ == "__main__":
+    words = options(__doc__)
+    words.add_argument("--subject", metavar="CMD", required=True)
+    words.add_argument("--oracle", metavar="CMD", default=shlex.quote(str(ORACLE)), help="target/oracle/replay where it is left out")
+    words.add_argument("--seed", type=int, default=1)
+    words.add_argument("--scripts", type=int, default=100000)
+    words.add_argument("--batch", type=int, default=2000)
+    words.add_argument("--first", action="store_true", help="stop after the batch with the first difference, and print its script as it is")
+    sys.exit(main(words.parse_args()))

@@ -1,36 +1,24 @@
 #!/usr/bin/env python3
-"""Tolerances as settings: the Python package on random scripts of sub-sample blocks, beside a reading of document 01's sub-sample
-block in Python whose near tests receive the same tolerances (document 02, 2.7); and the defaults spelled out beside none.
-Use: tests/tolerance_cases [SEED]      (random ones by the seeds 1 and SEED, or 1 and the time)"""
+"""Tolerances as settings: the Python package on random scripts of sub-sample blocks, beside a reading in Python of
+docs/REFERENCE.md, 'Sub-sample block', whose near tests receive the same tolerances; and the defaults spelled out beside none.
+"""
 import ctypes
 import math
-import os
 import random
-import shutil
 import struct
-import subprocess
 import sys
-import time
 from array import array
 from fractions import Fraction
 from pathlib import Path
 
-sys.dont_write_bytecode = True
-TOP = Path(__file__).resolve().parent.parent
+sys.path.insert(0, str(Path(__file__).resolve().parent.parent / "tools"))
+from shared import TOP, Checks, library, seeds  # noqa: E402
+from shared.bits import single  # noqa: E402
+
 sys.path.insert(0, str(TOP / "python"))
 NEVER = 1.7976931348623157e308
 SCRIPTS = 250
-passed, failed, seed = 0, 0, 1
-
-
-def check(name, ok, why=""):
-    global passed, failed
-    if ok:
-        passed += 1
-    else:
-        failed += 1
-        if failed <= 20:
-            print(f"tolerance, {name} (seed {seed}): {why}"[:600])
+check = Checks("tolerance", shown=20, width=600)
 
 
 # ---- the reading
@@ -123,7 +111,7 @@ class Reading:
         k = place - frame
         following = self.frames[frame + 1] if frame < last else self.after(frame, k, rate, loop_start * self.rate, loop_end * self.rate)
         exact = Fraction(1 - k) * Fraction(self.frames[frame]) + Fraction(k * following)
-        return struct.unpack("f", struct.pack("f", float(exact)))[0]
+        return single(float(exact))
 
     def after(self, last, k, rate, loop_start, loop_end):
         """The sample after the last frame."""
@@ -133,10 +121,6 @@ class Reading:
 
 
 # ---- random scripts
-
-
-def single(x):
-    return struct.unpack("f", struct.pack("f", x))[0]
 
 
 def beside(r, x):
@@ -242,23 +226,20 @@ def by_default(n, script):
     check(f"defaults {n}, converted", len({(c.rate, c.frames, c.bits(0).tobytes()) for c in made}) == 1, script)
 
 
-def main(given):
-    global netthimble, seed
-    if not shutil.which(os.environ.get("CC", "cc")):
-        print("skipped: no C compiler")
+def main(seeds):
+    global netthimble
+    if not library():
         return 0
-    subprocess.run([TOP / "tools/build_library", "-q"], check=True, stdout=subprocess.DEVNULL)
     import netthimble
 
-    for seed in (1, int(given[0]) if given else int(time.time())):
-        r = random.Random(seed)
+    for check.seed in seeds:
+        r = random.Random(check.seed)
         others = sum(beside_reading(n, Script(r)) for n in range(SCRIPTS))
         check("the tolerances matter", others > SCRIPTS / 10, f"{others} of {SCRIPTS} scripts differ from the defaults")
         for n in range(SCRIPTS // 5):
             by_default(n, Script(r))
-    print(f"tolerance: {passed} passed, {failed} failed")
-    return 1 if failed else 0
+    return check.ended()
 
 
 if __name__ == "__main__":
-    sys.exit(main(sys.argv[1:]))
+    sys.exit(main(seeds(__doc__)))

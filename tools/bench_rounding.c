@@ -1,28 +1,7 @@
-#!/usr/bin/env python3
-"""Measures fma, narrow, fma_narrow, floor and truncate of `fused` and `rounding` beside the C library's, in one program, in alternating rounds.
-`fma_narrow` is measured on fractions of 53 digits, and half way between two frames (`tied`), where every other sum is a tie of two f32 values.
-Each function begins at a multiple of 64 bytes, where objcopy is at hand (tools/align_code): by its place alone `narrow` takes up to 42 % more.
-Use, at the top of the repository: tools/bench_rounding [LIBRARY.a]   (needs rt and cc; some seconds, after rt has proved the crates)
-  measures this build of crates/rounding_c, or another one's library
-  tools/bench_rounding [LIBRARY.a] agree COUNT
-  compares `narrow` and `fma_narrow` with C's on that many random operands, ties and sums beside them among them"""
-import os
-import shutil
-import statistics
-import subprocess
-import sys
-import tempfile
-
-HERE = os.path.dirname(os.path.abspath(__file__))
-TOP = os.path.join(HERE, "..")
-ROUNDS = 401
-
-BENCH = r"""
+/* Rounding, the fused step and narrowing, ours beside C's: tools/bench_rounding.py. Use: bench_rounding ROUNDS, or bench_rounding agree COUNT */
 #include <inttypes.h>
 #include <math.h>
-#include <stdio.h>
-#include <string.h>
-#include <time.h>
+#include "measure.h"
 
 extern double rounding_fma(double, double, double);
 extern uint32_t rounding_narrow(double);
@@ -36,11 +15,6 @@ static uint64_t any(void) {
     state ^= state >> 7;
     state ^= state << 17;
     return state * 2685821657736338717u;
-}
-static double now(void) {
-    struct timespec t;
-    clock_gettime(CLOCK_MONOTONIC, &t);
-    return t.tv_sec * 1e9 + t.tv_nsec;
 }
 static uint64_t bits(double x) { uint64_t b; memcpy(&b, &x, 8); return b; }
 
@@ -62,7 +36,11 @@ static volatile uint64_t sink;
     uint64_t sum = 0; \
     double t = now(); \
     for (int k = 0; k < TURNS; k++) \
-        for (int i = 0; i < N; i++) { double a = A[i], b = B[i], c = C[i], p = P[i], h = H[i]; (void)a; (void)b; (void)c; (void)p; (void)h; sum += (expr); } \
+        for (int i = 0; i < N; i++) { \
+            double a = A[i], b = B[i], c = C[i], p = P[i], h = H[i]; \
+            (void)a; (void)b; (void)c; (void)p; (void)h; \
+            sum += (expr); \
+        } \
     printf(name " %f\n", (now() - t) / (N * TURNS)); \
     sink = sum; }
 
@@ -131,43 +109,3 @@ int main(int argc, char **argv) {
         RUN("truncate C", c_truncate(p))
     }
 }
-"""
-
-
-def main():
-    words = sys.argv[1:]
-    if words[:1] and words[0].endswith(".a"):
-        library = words.pop(0)
-    else:
-        subprocess.run([os.path.join(HERE, "prove"), "-q", "rounding_c"], check=True)
-        library = os.path.join(TOP, "crates", "rounding_c", "out", "librounding_c.a")
-    with tempfile.TemporaryDirectory() as work:
-        library = shutil.copy(library, work)
-        subprocess.run([os.path.join(HERE, "align_code"), library, "rounding", "fused"], check=True)
-        source, program = os.path.join(work, "bench.c"), os.path.join(work, "bench")
-        with open(source, "w") as f:
-            f.write(BENCH)
-        subprocess.run(["cc", "-O2", "-ffp-contract=off", "-o", program, source, library, "-lm"], check=True)
-        if words[:1] == ["agree"] and len(words) == 2 and words[1].isdigit():
-            sys.exit(subprocess.run([program] + words).returncode)
-        if words:
-            sys.exit(__doc__)
-        lines = subprocess.run([program, str(ROUNDS)], capture_output=True, text=True, check=True).stdout.split("\n")
-    times = {}
-    for line in lines:
-        if line:
-            name, side, ns = line.split()
-            times.setdefault((name, side), []).append(float(ns))
-    print("| ns per call, %d rounds | ours, median (quartiles) | C, median (quartiles) | ratio of a round, median (quartiles) |" % ROUNDS)
-    print("|---|---|---|---|")
-    for name in ("fma", "narrow", "fma_narrow", "tied", "floor", "truncate"):
-        ours, theirs = times[name, "ours"], times[name, "C"]
-        ratios = [a / b for a, b in zip(ours, theirs)]
-        cells = []
-        for values in (ours, theirs, ratios):
-            low, middle, high = statistics.quantiles(values, n=4)
-            cells.append("%.2f (%.2f to %.2f)" % (middle, low, high))
-        print("| `%s` | %s |" % (name, " | ".join(cells)))
-
-
-main()

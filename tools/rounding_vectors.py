@@ -1,83 +1,20 @@
 #!/usr/bin/env python3
-"""Makes the vectors of crates/rounding_vectors again: operands from a fixed seed, answers from the processor through C.
-Use, at the top of the repository: tools/rounding_vectors   (needs cc; writes crates/rounding_vectors/stdin and stdout)"""
-import os
+"""Makes the vectors of crates/rounding_vectors again: operands from a fixed seed, answers from the processor through C. Needs cc; writes
+crates/rounding_vectors/stdin and stdout.
+"""
 import random
-import struct
-import subprocess
 import tempfile
 
-HERE = os.path.dirname(os.path.abspath(__file__))
-CRATE = os.path.join(HERE, "..", "crates", "rounding_vectors")
+from shared import TOP, options, run
+from shared.bits import bits32, float64, single
+from shared.bits import bits64 as bits
+from shared.comparing import compiled
+
+CRATE = TOP / "crates/rounding_vectors"
 NAMES = ["fma", "narrow", "floor", "ceil", "round_away", "truncate", "widen", "near", "rem_euclid", "float_eq", "fma_narrow"]
 
-ANSWERS = r"""
-#include <inttypes.h>
-#include <math.h>
-#include <stdio.h>
-#include <string.h>
-
-static double f64(uint64_t b) { double x; memcpy(&x, &b, 8); return x; }
-static float f32(uint64_t b) { uint32_t n = b; float x; memcpy(&x, &n, 4); return x; }
-static uint64_t bits(double x) { uint64_t b; memcpy(&b, &x, 8); return x != x ? 0x7FF8000000000000u : b; }
-static uint64_t bits32(float x) { uint32_t b; memcpy(&b, &x, 4); return x != x ? 0x7FC00000u : b; }
-
-static uint64_t truncated(double x) {
-    if (!(x > -1)) return 0;
-    return x >= 18446744073709551616.0 ? UINT64_MAX : (uint64_t)x;
-}
-
-static int near(double a, double b, double tolerance) {
-    volatile double difference = a - b, product;
-    double larger = fabs(a) < fabs(b) ? fabs(b) : fabs(a);
-    product = tolerance * larger;
-    return a == b || fabs(difference) < product;
-}
-
-static double euclid(double a, double b) {
-    volatile double r = fmod(a, b);
-    return r < 0 ? r + fabs(b) : r;
-}
-
-static int same(float a, float b, float tolerance) {
-    volatile float difference = a - b;
-    return fabsf(difference) <= tolerance;
-}
-
-static uint64_t answer(int op, uint64_t a, uint64_t b, uint64_t c) {
-    volatile double x = f64(a), y = f64(b), z = f64(c);
-    switch (op) {
-    case 0: return bits(fma(x, y, z));
-    case 1: return bits32((float)x);
-    case 2: return bits(floor(x));
-    case 3: return bits(ceil(x));
-    case 4: return bits(round(x));
-    case 5: return truncated(x);
-    case 6: return bits((double)f32(a));
-    case 7: return near(x, y, z);
-    case 8: return bits(euclid(x, y));
-    case 10: return bits32((float)fma(x, y, z));
-    default: return same(f32(a), f32(b), f32(c));
-    }
-}
-
-int main(void) {
-    int op;
-    uint64_t a, b, c;
-    while (scanf("%d %" SCNx64 " %" SCNx64 " %" SCNx64, &op, &a, &b, &c) == 4)
-        printf("%X %016" PRIX64 " %016" PRIX64 " %016" PRIX64 " %016" PRIX64 "\n", op, a, b, c, answer(op, a, b, c));
-}
-"""
 
 rnd = random.Random(20261115)
-
-
-def bits(x):
-    return struct.unpack("<Q", struct.pack("<d", x))[0]
-
-
-def bits32(x):
-    return struct.unpack("<I", struct.pack("<f", x))[0]
 
 
 SIGN = 1 << 63
@@ -101,10 +38,6 @@ def any32():
     return rnd.choice([lambda: rnd.choice(SPECIAL32), lambda: rnd.getrandbits(32), lambda: bits32(rnd.uniform(-50000, 50000))])()
 
 
-def value(b):
-    return struct.unpack("<d", struct.pack("<Q", b))[0]
-
-
 def fma_operands():
     kind = rnd.randrange(6)
     if kind == 0:
@@ -113,7 +46,7 @@ def fma_operands():
         return double(1000, 1023), double(1000, 1023), double(1000, 1023)
     if kind == 2:  # c close to -(a * b)
         a, b = double(900, 1100), double(900, 1100)
-        return a, b, (bits(-(value(a) * value(b))) + rnd.randint(-2, 2)) % 2**64
+        return a, b, (bits(-(float64(a) * float64(b))) + rnd.randint(-2, 2)) % 2**64
     if kind == 3:  # a subnormal result
         a = double(1, 1000)
         field = a >> 52 & 2047
@@ -168,7 +101,7 @@ def rem_operands():
         return any64(), any64(), 0
     b = double(1000, 1030)
     if rnd.randrange(3) == 0:  # a multiple, a step beside it, or a tiny dividend
-        return rnd.choice([bits(value(b) * rnd.randint(-9, 9)), double(900, 950)]), b, 0
+        return rnd.choice([bits(float64(b) * rnd.randint(-9, 9)), double(900, 950)]), b, 0
     return double(980, 1040), b, 0
 
 
@@ -183,7 +116,7 @@ def float_eq_operands():
 
 def frame():
     """A random f32 between -1 and 1, as an f64."""
-    return struct.unpack("<f", struct.pack("<f", rnd.uniform(-1, 1)))[0]
+    return single(rnd.uniform(-1, 1))
 
 
 def fma_narrow_operands():
@@ -200,7 +133,7 @@ def fma_narrow_operands():
         return bits(1 - k), bits(frame()), bits(k * frame())
     a, b = bits(rnd.random()), bits(frame() if kind == 4 else rnd.uniform(-1, 1))
     tie = (rnd.getrandbits(1) << 63 | rnd.randint(1015, 1023) << 52 | rnd.getrandbits(23) << 29) + (1 << 28)
-    return a, b, (bits(value(tie) - value(a) * value(b)) + rnd.choice([-600, -2, -1, 0, 0, 0, 1, 2, 600])) % 2**64
+    return a, b, (bits(float64(tie) - float64(a) * float64(b)) + rnd.choice([-600, -2, -1, 0, 0, 0, 1, 2, 600])) % 2**64
 
 
 def one(make):
@@ -212,19 +145,17 @@ PLAN += [(150, one(any32)), (200, near_operands), (200, rem_operands), (200, flo
 
 
 def main():
-    questions = "".join("%d %x %x %x\n" % ((op,) + make()) for op, (count, make) in enumerate(PLAN) for _ in range(count))
+    asked = [(op, *make()) for op, (count, make) in enumerate(PLAN) for _ in range(count)]
+    questions = "".join(f"{op:d} {a:x} {b:x} {c:x}\n" for op, a, b, c in asked)
     with tempfile.TemporaryDirectory() as work:
-        source, program = os.path.join(work, "answers.c"), os.path.join(work, "answers")
-        with open(source, "w") as f:
-            f.write(ANSWERS)
-        subprocess.run(["cc", "-O1", "-ffp-contract=off", "-fno-builtin", "-o", program, source, "-lm"], check=True)
-        answers = subprocess.run([program], input=questions, capture_output=True, text=True, check=True).stdout
+        program = compiled("rounding_vectors", work, flags=("-O1", "-ffp-contract=off", "-fno-builtin"))
+        answers = run([program], questions.encode()).stdout.decode()
     if {len(line) for line in answers.splitlines()} != {69}:
         raise SystemExit("a line is not 69 characters long")
-    with open(os.path.join(CRATE, "stdin"), "w") as f:
-        f.write(answers)
-    with open(os.path.join(CRATE, "stdout"), "w") as f:
-        f.write("".join("%s %d vectors, 0 differ\n" % (name, count) for name, (count, _) in zip(NAMES, PLAN)))
+    (CRATE / "stdin").write_text(answers)
+    (CRATE / "stdout").write_text("".join(f"{name} {count} vectors, 0 differ\n" for name, (count, _) in zip(NAMES, PLAN)))
 
 
-main()
+if __name__ == "__main__":
+    options(__doc__).parse_args()
+    main()

@@ -1,8 +1,12 @@
 #!/usr/bin/env python3
 """Draws what `trial` printed, read from standard input, as an SVG picture: each channel's samples over the sample number.
-Use: ./trial examples/tone | tools/plot_trial > tone.svg"""
+
+  ./trial examples/tone | tools/plot_trial.py > tone.svg
+"""
 import struct
 import sys
+
+from shared import options
 
 WIDTH, HEIGHT, MARGIN = 900, 160, 24
 
@@ -44,6 +48,7 @@ def picture(blocks):
 
 
 if __name__ == "__main__":
+    options(__doc__).parse_args()
     found, refusals = read([line for line in sys.stdin.read().split("\n") if line])
     for line in refusals:
         print(f"refused: {line}", file=sys.stderr)

@@ -1,15 +1,10 @@
 #!/usr/bin/env python3
-"""Builds the oracle: the Rust original behind the replay protocol.
-
-Usage: oracle/build [SOURCE] [--edit FILE.edit] [--reach]
-
-SOURCE is the folder that holds the original's `src` (default: ../shared/docs/src). Its files are copied to
-target/oracle/, patched as PATCHES says, and compiled with oracle/rust. Nothing of it is committed.
+"""Builds the oracle: the Rust original behind the replay protocol (oracle/README.md). Its files are copied to target/oracle/, patched as PATCHES
+says, and compiled with oracle/rust. Nothing of it is committed.
   (nothing)   target/oracle/replay
   --edit E    target/oracle/edited/E: a copy with one deliberate fault, to try the differential run
   --reach     target/oracle/reach: a copy that counts which way each condition went, and reach.json beside it
 """
-import argparse
 import json
 import re
 import shutil
@@ -17,10 +12,12 @@ import subprocess
 import sys
 from pathlib import Path
 
-ROOT = Path(__file__).resolve().parent.parent
-TARGET = ROOT / "target" / "oracle"
-SOURCE = ROOT.parent / "shared" / "docs" / "src"
-RUST = ROOT / "oracle" / "rust"
+sys.path.insert(0, str(Path(__file__).resolve().parent.parent / "tools"))
+from shared import TOP, options
+
+TARGET = TOP / "target/oracle"
+SOURCE = TOP.parent / "shared/docs/src"
+RUST = TOP / "oracle/rust"
 CRATES = ["almost", "arrayvec", "float_eq", "log"]
 FILES = ["lib.rs", "buffer.rs", "render/quantum.rs", "node/audio_buffer_source.rs"]
 SOURCE_NODE = "node/audio_buffer_source.rs"
@@ -28,7 +25,7 @@ FLAGS = ["--edition", "2021", "-O", "-C", "overflow-checks=on", "--cap-lints", "
 
 # Every alteration of the original's text: file, text that stands there once, what replaces it.
 PATCHES = [
-    # Document 01, 'Rounding': a factor that the caller hands in stands for the power of two.
+    # A factor that the caller hands in stands for the power of two (docs/REFERENCE.md, 'Detune in cents').
     (SOURCE_NODE, "(detune / 1200.).exp2()", "params.factor"),
     # Which zero `(-0.).max(0.)` gives is left open by Rust and differs between builds: it is +0 here.
     (SOURCE_NODE, "self.offset.max(0.).min(", "(self.offset.max(0.) + 0.).min("),
@@ -111,39 +108,43 @@ def compile_all(folder, program):
     subprocess.run(command, check=True)
 
 
-def main():
-    options = argparse.ArgumentParser(description=__doc__, formatter_class=argparse.RawTextHelpFormatter)
-    options.add_argument("source", nargs="?", type=Path, default=SOURCE)
-    options.add_argument("--edit", type=Path)
-    options.add_argument("--reach", action="store_true")
-    options = options.parse_args()
-    if not (options.source / "src" / SOURCE_NODE).exists():
-        sys.exit(f"build: no Rust original in {options.source}: name its folder")
-
-    texts = {file: (options.source / "src" / file).read_text() for file in FILES}
-    for file, old, new in PATCHES:
-        replace_once(texts, file, old, new)
-    name = "replay"
-    if options.edit:
-        name = f"edited/{options.edit.stem}"
-        file, old, new = read_edit(options.edit)
-        if file not in texts:
-            texts[file] = (RUST / file).read_text()
-        replace_once(texts, file, old, new)
-    if options.reach:
-        name = "reach"
-        texts[SOURCE_NODE], found = reach(texts[SOURCE_NODE])
-
-    folder = TARGET / "source" / name
+def copied(folder, texts):
+    """A folder with oracle/rust and these files of the original."""
     shutil.rmtree(folder, ignore_errors=True)
     shutil.copytree(RUST, folder, ignore=shutil.ignore_patterns("head.rs"))
     texts["main.rs"] = (RUST / "head.rs").read_text() + LIB_DROPPED.sub("", texts.pop("lib.rs"))
     for file, text in texts.items():
         (folder / file).write_text(text)
-    if options.reach:
+
+
+def main(source, edit, with_reach):
+    if not (source / "src" / SOURCE_NODE).exists():
+        sys.exit(f"build: no Rust original in {source}: name its folder")
+    texts = {file: (source / "src" / file).read_text() for file in FILES}
+    for file, old, new in PATCHES:
+        replace_once(texts, file, old, new)
+    name = "replay"
+    if edit:
+        name = f"edited/{edit.stem}"
+        file, old, new = read_edit(edit)
+        if file not in texts:
+            texts[file] = (RUST / file).read_text()
+        replace_once(texts, file, old, new)
+    if with_reach:
+        name = "reach"
+        texts[SOURCE_NODE], found = reach(texts[SOURCE_NODE])
+    folder = TARGET / "source" / name
+    copied(folder, texts)
+    if with_reach:
         (TARGET / "reach.json").write_text(json.dumps(found))
     compile_all(folder, TARGET / name)
-    print((TARGET / name).relative_to(ROOT))
+    print((TARGET / name).relative_to(TOP))
 
 
-main()
+if __name__ == "__main__":
+    words = options(__doc__)
+    words.add_argument("source", metavar="SOURCE", nargs="?", type=Path, default=SOURCE, help="the folder that holds the original's `src`; ../shared/docs/src where it is left out")
+    words.add_argument("--edit", metavar="FILE.edit", type=Path)
+    words.add_argument("--reach", action="store_true")
+    given = words.parse_args()
+    main(given.source, given.edit, given.reach)

@@ -1,27 +1,7 @@
-#!/usr/bin/env python3
-"""Holds the calls that play a block against each other: the call in cents and both previews against the block call of the same library, and
-the block call of each library against the first one's.
-Use, at the top of the repository: tools/compare_calls LIBRARY.so [LIBRARY.so ..]   (needs cc; half a minute)
-A library is target/c/libnetthimble.so after tools/build_library; all have the record of include/netthimble.h. In one process all calls of
-all libraries take turns, and a ratio is of two times of one turn, so that the host's pace doesn't matter; the median over the turns counts.
-Where a process's memory and code lie shifts some ratios by a tenth: so this is done in several processes, and what is printed is the median
-over them, with the quartiles."""
-import os
-import statistics
-import subprocess
-import sys
-import tempfile
-
-TOP = os.path.join(os.path.dirname(os.path.abspath(__file__)), "..")
-PROCESSES, TURNS = 12, 15
-
-PROGRAM = r"""
-#include <dlfcn.h>
-#include <netthimble.h>
-#include <stdio.h>
-#include <stdlib.h>
-#include <string.h>
-#include <time.h>
+/* The calls that play a block, of each library that is named, in turns: tools/compare_calls.py. Use: compare_calls TURNS LIBRARY.so ..
+   A line for each row and library: its name, the library's number, the block call's time, its ratio to the first library's, and the ratios of
+   the other calls to the block call. */
+#include "measure.h"
 
 /* AFTER is the block call once more, on copies of the players before each block, as the previews are called. */
 enum { BLOCK, IN_CENTS, PREVIEW, PREVIEW_IN_CENTS, AFTER, CALLS, LIBRARIES = 4, STATES = 200 };
@@ -40,21 +20,6 @@ static int libraries, turns;
 static uint32_t out[4096];
 static netthimble_player before[LIBRARIES][STATES], copies[STATES];
 static double times[LIBRARIES][CALLS][1000];
-
-static double now(void) {
-    struct timespec t;
-    clock_gettime(CLOCK_MONOTONIC, &t);
-    return t.tv_sec * 1e9 + t.tv_nsec;
-}
-static int order(const void *a, const void *b) { return (*(double *)a > *(double *)b) - (*(double *)a < *(double *)b); }
-static void *found(void *library, const char *name) {
-    void *call = dlsym(library, name);
-    if (!call) exit((fprintf(stderr, "%s\n", dlerror()), 1));
-    return call;
-}
-static void must(uint32_t refusal) {
-    if (refusal) exit((fprintf(stderr, "compare_calls: refused with %u\n", (unsigned)refusal), 1));
-}
 
 /* A run of blocks from the player `p` on, by one of the calls. */
 static double run(int v, int call, netthimble_player p, const uint32_t *words, size_t len, float rate, int32_t cents, size_t count) {
@@ -93,12 +58,7 @@ static double median(double *a, double *b) {
 
 static void row(const char *name, size_t channels, double when, float rate, int32_t cents, size_t count) {
     size_t frames = 4096, len = channels * frames;
-    uint32_t state = 1, *words = malloc(4 * len);
-    for (size_t i = 0; i < len; i++) {
-        state = state * 1664525u + 1013904223u;
-        float f = (float)(int32_t)state / 2147483648.0f;
-        memcpy(words + i, &f, 4);
-    }
+    uint32_t *words = frames_of(len, true);
     netthimble_player p[LIBRARIES];
     for (int v = 0; v < libraries; v++) {
         netthimble_player q = p[v] = begun(v, when, channels, frames, words);
@@ -114,8 +74,8 @@ static void row(const char *name, size_t channels, double when, float rate, int3
             times[v][call][r] = run(v, call, p[v], words, len, rate, cents, count);
         }
     for (int v = 0; v < libraries; v++)
-        printf("%s, %zu;%d;%f;%f;%f;%f;%f\n", name, channels, v, median(times[v][BLOCK], NULL), median(times[v][BLOCK], times[0][BLOCK]), median(times[v][IN_CENTS], times[v][BLOCK]),
-               median(times[v][PREVIEW], times[v][AFTER]), median(times[v][PREVIEW_IN_CENTS], times[v][AFTER]));
+        printf("%s, %zu;%d;%f;%f;%f;%f;%f\n", name, channels, v, median(times[v][BLOCK], NULL), median(times[v][BLOCK], times[0][BLOCK]),
+               median(times[v][IN_CENTS], times[v][BLOCK]), median(times[v][PREVIEW], times[v][AFTER]), median(times[v][PREVIEW_IN_CENTS], times[v][AFTER]));
     free(words);
 }
 
@@ -123,8 +83,7 @@ int main(int argc, char **argv) {
     turns = atoi(argv[1]);
     libraries = argc - 2;
     for (int v = 0; v < libraries; v++) {
-        void *library = dlopen(argv[2 + v], RTLD_NOW | RTLD_LOCAL);
-        if (!library) return fprintf(stderr, "%s\n", dlerror()), 1;
+        void *library = opened(argv[2 + v]);
         calls[v].block = found(library, "netthimble_player_process");
         calls[v].in_cents = found(library, "netthimble_player_process_cents");
         calls[v].preview = found(library, "netthimble_player_preview");
@@ -142,36 +101,3 @@ int main(int argc, char **argv) {
     for (size_t c = 1; c <= 32; c *= c < 2 ? 2 : 4) row("sub-sample, no cents", c, 0.0, 0.75f, 0, 160 / (c + 1));
     for (size_t c = 1; c <= 32; c *= c < 2 ? 2 : 4) row("sub-sample, 50 cents", c, 0.0, 1.0f, 50, 160 / (c + 1));
 }
-"""
-
-
-def spread(values):
-    q = statistics.quantiles(values, n=4)
-    return f"{q[1]:.2f} ({q[0]:.2f} to {q[2]:.2f})"
-
-
-def main():
-    libraries = [os.path.abspath(name) for name in sys.argv[1:]]
-    if not 1 <= len(libraries) <= 4:
-        sys.exit(__doc__)
-    for library in libraries:
-        if not os.path.isfile(library):
-            sys.exit(f"compare_calls: {library} is not there: tools/build_library makes target/c/libnetthimble.so")
-    rows = {}
-    with tempfile.TemporaryDirectory() as folder:
-        source, program = os.path.join(folder, "calls.c"), os.path.join(folder, "calls")
-        with open(source, "w") as f:
-            f.write(PROGRAM)
-        subprocess.run(["cc", "-O2", "-Wall", "-Wextra", f"-I{TOP}/include", "-o", program, source, "-ldl", "-lm"], check=True)
-        for _ in range(PROCESSES):
-            text = subprocess.run([program, str(TURNS), *libraries], check=True, capture_output=True, text=True).stdout
-            for line in text.splitlines():
-                name, which, *values = line.split(";")
-                rows.setdefault((name, int(which)), []).append([float(value) for value in values])
-    print("| block, channels | library | block, ns | by the first library | in cents | preview | preview in cents |\n|---|---|---|---|---|---|---|")
-    for (name, which), values in rows.items():
-        ns, *ratios = zip(*values)
-        print(f"| {name} | {which + 1} | {statistics.median(ns):.0f} | " + " | ".join(spread(ratio) for ratio in ratios) + " |")
-
-
-main()

@@ -1,39 +1,24 @@
 #!/usr/bin/env python3
-"""The loop switch during playback: the Python package on random lists of blocks and loop messages,
-beside the tape of document 02, 2.6. Use: tests/tape_cases [SEED]
-(random ones by the seeds 1 and SEED, or 1 and the time)
-The tape is written here from the words of 2.6, not taken from oracle/rust."""
+"""The loop switch during playback: the Python package on random lists of blocks and loop messages, beside the tape of
+docs/REFERENCE.md, 'The loop switch'. The tape is written here from its words, not taken from oracle/rust.
+"""
 import math
-import os
 import random
-import shutil
-import subprocess
 import sys
-import time
 from array import array
 from fractions import Fraction
 from functools import partial
 from pathlib import Path
 
-sys.dont_write_bytecode = True
-TOP = Path(__file__).resolve().parent.parent
+sys.path.insert(0, str(Path(__file__).resolve().parent.parent / "tools"))
+from shared import TOP, Checks, library, seeds  # noqa: E402
+
 sys.path.insert(0, str(TOP / "python"))
 LATEST = 2.0**30
 LISTS = 400
 RATES = [3000, 8000, 11025, 11025.5, 22050, 44000, 44100, 48000, 96000, 192000, 768000]
 BOUND = Fraction(1, 1024)
-passed, failed = 0, 0
-seed = 1
-
-
-def check(name, ok, why=""):
-    global passed, failed
-    if ok:
-        passed += 1
-    else:
-        failed += 1
-        if failed <= 40:
-            print(f"tape, {name} (seed {seed}): {why}"[:400])
+check = Checks("tape")
 
 
 # ---- the tape
@@ -224,23 +209,19 @@ def random_list(r, n):
         last = at
 
 
-def main(given):
-    global netthimble, seed
-    if not shutil.which(os.environ.get("CC", "cc")):
-        print("skipped: no C compiler")
+def main(seeds):
+    global netthimble
+    if not library():
         return 0
-    library = [TOP / "tools/build_library", "-q"]
-    subprocess.run(library, check=True, stdout=subprocess.DEVNULL)
     import netthimble
 
     by_hand()
-    for seed in (1, int(given[0]) if given else int(time.time())):
-        r = random.Random(seed)
+    for check.seed in seeds:
+        r = random.Random(check.seed)
         for n in range(LISTS):
             random_list(r, n)
-    print(f"tape: {passed} passed, {failed} failed")
-    return 1 if failed else 0
+    return check.ended()
 
 
 if __name__ == "__main__":
-    sys.exit(main(sys.argv[1:]))
+    sys.exit(main(seeds(__doc__)))

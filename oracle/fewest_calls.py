@@ -1,11 +1,15 @@
 #!/usr/bin/env python3
-"""For docs/DIFFERENCES.md, B18: the fewest calls with which a loop-on message behind an exact fit is heard, the player not having ended.
-Use: oracle/fewest_calls RATE LENGTH [MOST]      (a whole rate; up to MOST calls are tried, 200 unless said)
-Prints the calls: C clip, S start, B block, 0 and 1 loop off and on. Searched breadth first over the aligned block's position in binary64, which
-Python's floats are; what is found is the least for this model, and the scripts of B18 are run on both sides (oracle/check-differences)."""
+"""For docs/DIFFERENCES.md, B18: the fewest calls with which a loop-on message behind an exact fit is heard, the player not having ended, at a whole
+rate. Prints the calls: C clip, S start, B block, 0 and 1 loop off and on. Searched breadth first over the aligned block's position in binary64,
+which Python's floats are; what is found is the least for this model, and the scripts of B18 are run on both sides (oracle/check_differences.py).
+"""
 import math
 import sys
 from collections import deque
+from pathlib import Path
+
+sys.path.insert(0, str(Path(__file__).resolve().parent.parent / "tools"))
+from shared import options
 
 
 def block(rate, length, p, position, looped):
@@ -44,8 +48,14 @@ def fewest(rate, length, most):
     return None
 
 
-if len(sys.argv) not in (3, 4) or not all(word.isdigit() for word in sys.argv[1:]):
-    sys.exit("use: oracle/fewest_calls RATE LENGTH [MOST]")
-rate, length, *most = (int(word) for word in sys.argv[1:])
-found = fewest(rate, length, most[0] if most else 200)
-print(f"{rate} {length}: {len(found)} calls, {found}" if found else f"{rate} {length}: none found")
+def main(rate, length, most):
+    found = fewest(rate, length, most)
+    print(f"{rate} {length}: {len(found)} calls, {found}" if found else f"{rate} {length}: none found")
+
+
+if __name__ == "__main__":
+    words = options(__doc__)
+    words.add_argument("rate", metavar="RATE", type=int)
+    words.add_argument("length", metavar="LENGTH", type=int)
+    words.add_argument("most", metavar="MOST", nargs="?", type=int, default=200, help="how many calls are tried at most")
+    main(**vars(words.parse_args()))

@@ -1,37 +1,24 @@
 #!/usr/bin/env python3
-"""Holds a program that speaks the replay protocol to a reading of the near tests (document 01, 'Rounding', and document 02, 2.7) in
-fractions: near, near zero and relabelling, with tolerances, each at thousands of numbers about the difference that decides.
-
-Usage: oracle/check-near [CMD] [--seed N] [--cases N]     (default: target/oracle/replay, 4,000 cases of each)
+"""Holds a program that speaks the replay protocol to a reading in fractions of docs/REFERENCE.md, 'Near tests and tolerances': near, near zero and
+relabelling, with tolerances, each at thousands of numbers about the difference that decides.
 
 Near is asked by a loop start beside the position, near zero by a position, both at rate 0, so that a block answers which was played;
 near 1 by what the frame after the last one gives; relabelling by whether a NaN's bits are kept.
 """
-import argparse
 import math
 import random
 import shlex
 import struct
-import subprocess
 import sys
 from fractions import Fraction
 from pathlib import Path
 
-ROOT = Path(__file__).resolve().parent.parent
+sys.path.insert(0, str(Path(__file__).resolve().parent.parent / "tools"))
+from shared import ORACLE, options, run
+from shared.bits import single, x32, x64
+
 MAX = "7FEFFFFFFFFFFFFF"
 RATE, FRAMES = 48000.0, 480  # a clip of 0.01 s
-
-
-def x32(x):
-    return struct.pack(">f", x).hex().upper()
-
-
-def x64(x):
-    return struct.pack(">d", x).hex().upper()
-
-
-def as_f32(x):
-    return struct.unpack(">f", struct.pack(">f", x))[0]
 
 
 def rounded(x):
@@ -40,19 +27,19 @@ def rounded(x):
 
 
 def is_near(a, b, tolerance):
-    """'near if equal, or |a - b| < the tolerance times the larger magnitude, difference and product each rounded to f64'"""
+    """Equal, or apart by less than the tolerance times the larger magnitude, where the difference and the product are rounded to f64 each."""
     difference = rounded(abs(Fraction(a) - Fraction(b)))
     return a == b or difference < rounded(Fraction(tolerance) * max(abs(Fraction(a)), abs(Fraction(b))))
 
 
 def is_near_zero(a, tolerance):
-    """'near zero: |a| < the tolerance'"""
+    """The magnitude is below the tolerance."""
     return abs(Fraction(a)) < Fraction(tolerance)
 
 
 def is_relabelled(a, b, distance):
-    """'f32 subtraction, magnitude at most' the distance; the subtraction of two f32s between 3,000 and 768,000 is exact in f64."""
-    difference = as_f32(rounded(Fraction(a) - Fraction(b)))
+    """The f32 difference is at most the distance; the difference of two f32s between 3,000 and 768,000 is exact in f64."""
+    difference = single(rounded(Fraction(a) - Fraction(b)))
     return abs(Fraction(difference)) <= Fraction(distance)
 
 
@@ -115,7 +102,7 @@ def near_one_case(rng):
 def relabel_case(rng):
     rate = struct.unpack(">f", struct.pack(">i", rng.randint(0x453B8000, 0x493B8000)))[0]
     gap = rng.choice([rng.uniform(0, 1.5), 2.0 ** -rng.uniform(0, 13), 0.1, 1.0, 0.0])
-    other = as_f32(min(max(rate + rng.choice([1, -1]) * gap, 3000.0), 768000.0))
+    other = single(min(max(rate + rng.choice([1, -1]) * gap, 3000.0), 768000.0))
     distance = beside_32(rng, min(abs(rate - other), 1.0)) if rng.random() < 0.85 else beside_32(rng, rng.choice([0.0, 1.0, 0.1, 0.5]))
     lines = [f"Q 1 1 {x32(rate)} {x32(other)} {x64(0.0)} {x64(0.0)} {x32(distance)}", "W 7F800001"]
     return lines, "7F800001" if is_relabelled(rate, other, distance) else "7FC00000", (rate, other, distance)
@@ -139,26 +126,31 @@ KINDS = {
 }
 
 
-def main():
-    options = argparse.ArgumentParser(description=__doc__, formatter_class=argparse.RawTextHelpFormatter)
-    options.add_argument("command", nargs="?", default=shlex.quote(str(ROOT / "target" / "oracle" / "replay")))
-    options.add_argument("--seed", type=int, default=1)
-    options.add_argument("--cases", type=int, default=4000)
-    options = options.parse_args()
-    rng, wrong = random.Random(options.seed), 0
-    for kind, (make, decided) in KINDS.items():
-        cases = [make(rng) for _ in range(options.cases)]
-        sent = "\n".join(line for n, (lines, *_) in enumerate(cases) for line in (f"# @{n}", *clip(lines))) + "\n"
-        done = subprocess.run(shlex.split(options.command), input=sent, capture_output=True, text=True)
-        answers = [part.split("\n")[1:] for part in ("\n" + done.stdout).split("\n# @")[1:]]
-        told = []
-        for answer, (lines, expected, numbers) in zip(answers, cases):
-            told.append(decided(answer) == expected)
-            if not told[-1] and told.count(False) <= 3:
-                print(f"{kind} {numbers}: expected {expected}: {answer[:2]}")
-        wrong += len(cases) - sum(told)
-        print(f"{kind}: {len(cases)} cases, {len(cases) - sum(told)} differ")
-    sys.exit(1 if wrong else 0)
+def wrong_of(kind, command, rng, count):
+    """How many cases of a kind are answered otherwise; the first three of them are printed."""
+    make, decided = KINDS[kind]
+    cases = [make(rng) for _ in range(count)]
+    sent = "\n".join(line for n, (lines, *_) in enumerate(cases) for line in (f"# @{n}", *clip(lines))) + "\n"
+    printed = run(command, sent.encode(), stderr=None).stdout.decode()
+    answers = [part.split("\n")[1:] for part in ("\n" + printed).split("\n# @")[1:]]
+    told = []
+    for answer, (lines, expected, numbers) in zip(answers, cases):
+        told.append(decided(answer) == expected)
+        if not told[-1] and told.count(False) <= 3:
+            print(f"{kind} {numbers}: expected {expected}: {answer[:2]}")
+    print(f"{kind}: {count} cases, {count - sum(told)} differ")
+    return count - sum(told)
 
 
-main()
+def main(command, seed, count):
+    rng = random.Random(seed)
+    return 1 if sum([wrong_of(kind, command, rng, count) for kind in KINDS]) else 0
+
+
+if __name__ == "__main__":
+    words = options(__doc__)
+    words.add_argument("command", metavar="CMD", nargs="?", default=shlex.quote(str(ORACLE)), help="target/oracle/replay where it is left out")
+    words.add_argument("--seed", type=int, default=1)
+    words.add_argument("--cases", type=int, default=4000, help="of each kind")
+    given = words.parse_args()
+    sys.exit(main(shlex.split(given.command), given.seed, given.cases))

@@ -1,28 +1,23 @@
 #!/usr/bin/env python3
 """Makes the recorded answers: crates/replay/stdin, the scripts, and crates/replay/stdout, what the oracle answers.
 
-Usage: oracle/record [SOURCE] [--check]
-
 The scripts are the named ones of oracle/named.py and short random ones of a fixed seed; behind them the same with
 calls in cents, behind these the same with previews, then with conversions, and then with tolerances, so that the earlier
-ones stay as they were. Builds the oracle and its counting copy from SOURCE (oracle/build) and prints which way each condition of the
-original went.
---check writes nothing and tells whether the files are what the oracle gives today.
+ones stay as they were. Builds the oracle and its counting copy (oracle/build.py) and prints which way each condition of the original went.
 """
-import argparse
 import json
 import subprocess
 import sys
 from functools import partial
 from pathlib import Path
 
-ROOT = Path(__file__).resolve().parent.parent
-sys.path.insert(0, str(ROOT / "oracle"))
-sys.dont_write_bytecode = True
-from named import conversions, in_cents, named, previews  # noqa: E402
-from named_tolerances import tolerances  # noqa: E402
-from scripts import Generator, converted_frames  # noqa: E402
-from tolerances import has_own  # noqa: E402
+sys.path.insert(0, str(Path(__file__).resolve().parent.parent / "tools"))
+from named import conversions, in_cents, named, previews
+from named_tolerances import tolerances
+from scripts import Generator, converted_frames
+from tolerances import has_own
+
+from shared import ORACLE, TOP, must, options
 
 SEED, SEED_PREVIEWS, SEED_CONVERSIONS, SEED_TOLERANCES = 20261115, 20261116, 20261127, 20261201
 RANDOM, RANDOM_CENTS, RANDOM_PREVIEWS, RANDOM_CONVERSIONS, RANDOM_TOLERANCES = 240, 60, 60, 60, 60
@@ -33,7 +28,7 @@ ONE_WAY = {(484, "&self.buffer is some"), (600, "buffer_index >= end_index"), (6
 
 
 def run(program, data):
-    done = subprocess.run([ROOT / "target" / "oracle" / program], input=data, capture_output=True, check=True)
+    done = subprocess.run([ORACLE.parent / program], input=data, capture_output=True, check=True)
     return done.stdout, done.stderr.decode()
 
 
@@ -101,7 +96,7 @@ def coverage(data):
         number, no, yes = map(int, line.split())
         counts[number] = (no, yes)
     print("| line | condition | false | true |\n|---|---|---|---|")
-    for number, place in enumerate(json.loads((ROOT / "target" / "oracle" / "reach.json").read_text())):
+    for number, place in enumerate(json.loads((ORACLE.parent / "reach.json").read_text())):
         no, yes = counts.get(number, (0, 0))
         condition = place["text"].replace("|", "\\|")
         print(f"| {place['line']} | `{condition}` | {no or 'never'} | {yes or 'never'} |")
@@ -111,26 +106,24 @@ def coverage(data):
         sys.exit(f"record: conditions that go one way: {sorted(one_way)}")
 
 
-def main():
-    options = argparse.ArgumentParser(description=__doc__, formatter_class=argparse.RawTextHelpFormatter)
-    options.add_argument("source", nargs="?")
-    options.add_argument("--check", action="store_true")
-    options = options.parse_args()
-    source = [options.source] if options.source else []
+def main(source, check):
     for kind in ([], ["--reach"]):
-        subprocess.run([ROOT / "oracle" / "build", *source, *kind], check=True, stdout=subprocess.DEVNULL)
+        must([TOP / "oracle/build.py", *([source] if source else []), *kind])
     data, count = chosen()
     answers, _ = run("replay", data)
     files = {"stdin": data, "stdout": answers}
-    folder = ROOT / "crates" / "replay"
-    if options.check:
+    folder = TOP / "crates/replay"
+    if check:
         stale = [name for name, wanted in files.items() if (folder / name).read_bytes() != wanted]
         sys.exit(f"record: not what the oracle gives: {', '.join(stale)}" if stale else 0)
-    folder.mkdir(exist_ok=True)
     for name, content in files.items():
         (folder / name).write_bytes(content)
     coverage(data)
     print(f"{count} scripts, {len(data)} bytes; answers {len(answers)} bytes")
 
 
-main()
+if __name__ == "__main__":
+    words = options(__doc__)
+    words.add_argument("source", metavar="SOURCE", nargs="?", help="as oracle/build.py's")
+    words.add_argument("--check", action="store_true", help="write nothing, and tell whether the files are what the oracle gives today")
+    main(**vars(words.parse_args()))

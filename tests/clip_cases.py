@@ -1,38 +1,25 @@
 #!/usr/bin/env python3
-"""Clip files with either header beside a reading of the layout: the old reader, the new one, the writer, tools/wav_to_clip and `trial`, on
-whole, altered and random files. Use: tests/clip_cases [SEED]   (random ones by the seeds 1 and SEED; without it, by the time)
-The reading is written here from document 01 ('Clip file', the table) and document 02, 2.5, not taken from crates/clip, and the library is
-called by declarations of its own, not by the package."""
+"""Clip files with either header beside a reading of the layout: the old reader, the new one, the writer, tools/wav_to_clip.py and `trial`, on
+whole, altered and random files. The reading is written here from docs/REFERENCE.md, 'Clip file' and 'Refusals', not taken from crates/clip, and the
+library is called by declarations of its own, not by the package.
+"""
 import ctypes
-import importlib.machinery
-import importlib.util
-import os
 import random
-import shutil
 import struct
-import subprocess
 import sys
 import tempfile
-import time
 import wave
 from ctypes import c_char_p, c_size_t, c_uint32, c_void_p
 from pathlib import Path
 from typing import NamedTuple
 
-sys.dont_write_bytecode = True
-TOP = Path(__file__).resolve().parent.parent
-passed, failed = 0, 0
-seed = 1
+sys.path.insert(0, str(Path(__file__).resolve().parent.parent / "tools"))
+import transcripts  # noqa: E402
+import wav_to_clip  # noqa: E402
+from shared import TOP, Checks, library, program, run, seeds, subject  # noqa: E402
+from shared.bits import bits32, float32  # noqa: E402
 
-
-def check(name, ok, why=""):
-    global passed, failed
-    if ok:
-        passed += 1
-    else:
-        failed += 1
-        if failed <= 40:
-            print(f"clip files, {name} (seed {seed}): {why}"[:400])
+check = Checks("clip files")
 
 
 # ---- the reading
@@ -47,11 +34,6 @@ class Clip(NamedTuple):
     rate: int  # the bits of an f32, as are the samples
     onset: int
     samples: bytes
-
-
-def number(value):
-    """The f32 of these bits."""
-    return struct.unpack("<f", struct.pack("<I", value))[0]
 
 
 def laid_out(data, fields):
@@ -72,7 +54,7 @@ def refusal(is_laid_out, clip, count):
         return 15
     if not 1 <= clip.channels <= 32 or clip.frames > 16777216 or count != clip.channels * clip.frames:
         return 1
-    if not 3000 <= number(clip.rate) <= 768000:
+    if not 3000 <= float32(clip.rate) <= 768000:
         return 2
     return 17 if clip.onset >= clip.frames else 0
 
@@ -184,7 +166,7 @@ def read_by(data, with_onset):
 
 
 def compare(name, data):
-    """Both readers on a byte string, beside the reading; and what the request says of the clips that they accept."""
+    """Both readers on a byte string, beside the reading; and what holds of the clips that they accept."""
     old, new = read_by(data, False), read_by(data, True)
     ok = old == read(data, [OLD]) and new == read(data, [OLD, NEW])
     check(name, ok and facts(data, old[1], new[1]), f"{old[:1]} and {new[:1]} of {len(data)} bytes {data[:64].hex()}")
@@ -377,33 +359,24 @@ def writer(r, count):
     check("the writer accepts and refuses", min(numbers.values()) > count // 100, numbers)
 
 
-# ---- tools/wav_to_clip
-
-
-def script(folder, name):
-    loader = importlib.machinery.SourceFileLoader(name, str(TOP / folder / name))
-    module = importlib.util.module_from_spec(importlib.util.spec_from_loader(name, loader))
-    loader.exec_module(module)
-    return module
+# ---- tools/wav_to_clip.py
 
 
 def of_floats(rate, rows, onset):
-    bits = struct.unpack("<I", struct.pack("<f", rate))[0]
-    return Clip(len(rows), len(rows[0]), bits, onset, b"".join(struct.pack(f"<{len(row)}f", *row) for row in rows))
+    return Clip(len(rows), len(rows[0]), bits32(rate), onset, b"".join(struct.pack(f"<{len(row)}f", *row) for row in rows))
 
 
 def tool_writer(r, count):
     """The tool's own writer and the library's, byte for byte."""
-    tool = script("tools", "wav_to_clip")
     for n in range(count):
         channels = r.choice((1, 1, 2, 3, 31, 32, r.randrange(1, 33)))
         most = (65536 - 16 - 4 * channels) // (4 * channels)
         frames = most if n % 50 == 0 else min(most, r.choice((1, 2, r.randrange(1, 60))))
         rows = [[r.randrange(-(2**31), 2**31) / 2**31 for _ in range(frames)] for _ in range(channels)]
         clip = of_floats(r.choice((3000, 8000, 44100, 48000, 768000, r.randrange(3000, 768001))), rows, r.choice((0, frames - 1, r.randrange(frames))))
-        data = tool.clip(number(clip.rate), rows, clip.onset)
+        data = wav_to_clip.clip(float32(clip.rate), rows, clip.onset)
         check("wav_to_clip's writer", written_by(clip, channels * frames, len(data)) == (0, data), f"{clip[:4]}")
-        old = tool.clip(number(clip.rate), rows)
+        old = wav_to_clip.clip(float32(clip.rate), rows)
         check("wav_to_clip's old writer", old == made(clip, OLD) and read_by(old, False) == (0, clip._replace(onset=0)), f"{clip[:4]}")
 
 
@@ -420,7 +393,7 @@ def put_wav(r, path, channels, width, frames, rate=44100):
 
 
 def run_tool(folder, *words):
-    return subprocess.run([sys.executable, TOP / "tools/wav_to_clip", *map(str, words)], stdout=subprocess.PIPE, stderr=subprocess.STDOUT, cwd=folder)
+    return run([sys.executable, TOP / "tools/wav_to_clip.py", *words], folder=folder)
 
 
 def tool_runs(r, folder):
@@ -494,37 +467,33 @@ def trial_files(r, count):
 
 def trial(r, count):
     """`trial` is a new reader: it prints the refusal's number, or plays the frames, looped."""
-    if not (TOP / "crates/trial/out/trial").exists():
+    if not program("trial").exists():
         print("clip files: crates/trial/out/trial is not built, so it is not tried")
         return
-    words, numbers = script("tests", "trial_cases"), {}
-    command = words.subject("trial")
+    command, numbers = subject("trial"), {}
     with tempfile.TemporaryDirectory() as folder:
         for data in trial_files(r, count):
             Path(folder, "clip.bin").write_bytes(data)
-            printed = subprocess.run(command, input=PLAYED.encode(), stdout=subprocess.PIPE, cwd=folder).stdout.decode()
+            printed = run(command, PLAYED.encode(), folder).stdout.decode()
             refused, clip = read(data, [OLD, NEW])
             expected = f"X {refused}\n"
             if clip is not None:
                 rows = [struct.unpack_from(f"<{clip.frames}I", clip.samples, 4 * clip.frames * c) for c in range(clip.channels)]
-                expected = words.looped(rows, 3)
+                expected = transcripts.looped(rows, 3)
             numbers[refused] = numbers.get(refused, 0) + 1
             check("trial", printed == expected, f"{data[:64].hex()}: printed {printed[:100]!r}, expected {expected[:100]!r}")
     check("trial plays and refuses", set(numbers) == {0, 15, 1, 2, 17}, numbers)
 
 
-def main(given):
-    global seed
-    if not shutil.which(os.environ.get("CC", "cc")):
-        print("skipped: no C compiler")
+def main(seeds):
+    if not library():
         return 0
-    subprocess.run([TOP / "tools/build_library", "-q"], check=True, stdout=subprocess.DEVNULL)
     open_library()
-    r = random.Random(seed)
+    r = random.Random(1)
     altered(r)
     cut(r)
-    for seed in (1, int(given[0]) if given else int(time.time())):
-        r = random.Random(seed)
+    for check.seed in seeds:
+        r = random.Random(check.seed)
         noise(r)
         headers(r, 20000)
         writer(r, 10000)
@@ -533,9 +502,8 @@ def main(given):
     with tempfile.TemporaryDirectory() as folder:
         tool_runs(r, folder)
         tool_refusals(r, folder)
-    print(f"clip files: {passed} passed, {failed} failed")
-    return 1 if failed else 0
+    return check.ended()
 
 
 if __name__ == "__main__":
-    sys.exit(main(sys.argv[1:]))
+    sys.exit(main(seeds(__doc__)))
