@@ -143,7 +143,8 @@ def main(source, edit, with_reach):
 
 if __name__ == "__main__":
     words = options(__doc__)
-    words.add_argument("source", metavar="SOURCE", nargs="?", type=Path, default=SOURCE, help="the folder that holds the original's `src`; ../shared/docs/src where it is left out")
+    where = "the folder that holds the original's `src`; ../shared/docs/src where it is left out"
+    words.add_argument("source", metavar="SOURCE", nargs="?", type=Path, default=SOURCE, help=where)
     words.add_argument("--edit", metavar="FILE.edit", type=Path)
     words.add_argument("--reach", action="store_true")
     given = words.parse_args()

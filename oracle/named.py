@@ -237,7 +237,8 @@ def sub_sample():
     near = 200 / RATE
     yield "near both loop points", [R(), C(ramp(300)), S(0.0, near), "L 1", P(near), E(near * (1 + 2.0**-27)), B(), "Z"]
     yield "entered is kept by aligned blocks", [R(), C(ramp(8)), S(), "L 1", B(0.0, 0.5), "Z", "L 0", B(D), "Z"]
-    yield "entered is cleared by a sub-sample block, loop off", [R(), C(ramp(300)), S(), "L 1", B(0.0, 0.5), "L 0", B(D, 0.5), "Z", "L 1", P(200 / RATE), B(2 * D, 0.5), "Z"]
+    yield "entered is cleared by a sub-sample block, loop off", [R(), C(ramp(300)), S(), "L 1", B(0.0, 0.5),
+                                                                 "L 0", B(D, 0.5), "Z", "L 1", P(200 / RATE), B(2 * D, 0.5), "Z"]
     yield "remainder equal to its divisor", [R(), C(ramp(8)), S(), "L 1", B(0.0, -1.0), "Z"]
     yield "remainder at 44,100", [R(44100.0), C(ramp(7), rate=44100.0), S(), "L 1", B(0.0, -1.0), "Z"]
     # duration and stop
@@ -368,21 +369,26 @@ def in_cents():
     yield "cents 14: rates", [R(), *(f"D {x64(0.0)} {bits} 00000000" for bits in ("7F800000", "FF800000", "7FC00000")), "Z"]
     wrong = f"D {NAN} 7F800000 {xi32(12001)}"
     yield "cents: 8, 13, 16, 14, 1 in this order", [R(), C([1.0]), S(), wrong + " 7 9", wrong + " 4096 9", f"D {x64(0.0)} 7F800000 {xi32(12001)} 4096 9",
-                                                   f"D {x64(0.0)} 7F800000 {xi32(12000)} 4096 9", cents(0.0, 1.0, 12000, 4096, 9), cents(0.0, 1.0, 12000, 4096, 1), "Z"]
+                                                   f"D {x64(0.0)} 7F800000 {xi32(12000)} 4096 9",
+                                                   cents(0.0, 1.0, 12000, 4096, 9), cents(0.0, 1.0, 12000, 4096, 1), "Z"]
     yield "cents: 8 before each", [R(), C([1.0]), S(), f"D {NAN} 3F800000 00000000 7", cents(0.0, 1.0, 12001, 7), f"D {x64(0.0)} 7F800000 00000000 7",
                                    cents(0.0, 1.0, 0, 7, 9), "Z"]
     yield "cents: 13 before each", [R(), C([1.0]), S(), cents(-1.0, 1.0, 12001), f"D {NAN} 7F800000 00000000", cents(-1.0, 1.0, 0, 4096, 9), "Z"]
     yield "cents: 16 before 14, 16 before 1", [R(), C([1.0]), S(), f"D {x64(0.0)} 7F800000 {xi32(-12001)}", cents(0.0, 1.0, -12001, 4096, 9), "Z"]
     yield "cents: a refused block changes nothing", [R(), *clip, "L 1", B(0.0, 0.7), "Z", cents(D, 1.0, 12001), "Z", cents(D, 1.0, 1, 128), "Z",
-                                                    cents(0.0, 1.0, 1), "Z", f"D {x64(D)} 7FC00000 00000001", "Z", cents(D, 1.0, 1, 4096, 9), "Z", cents(D, 1.0, 1), "Z"]
+                                                    cents(0.0, 1.0, 1), "Z", f"D {x64(D)} 7FC00000 00000001", "Z",
+                                                    cents(D, 1.0, 1, 4096, 9), "Z", cents(D, 1.0, 1), "Z"]
     yield "cents: a refused block leaves the last time", [R(), cents(1.0), cents(2.0, 1.0, 12001), cents(1.5), "Z"]
     yield "cents without a player", [R(), "# then", "R 00000000", cents(), cents(0.0, 1.0, 12001)]
-    yield "cents: no clip, no start, ended", [R(), cents(), "Z", S(MAX), cents(D, 1.0, -1), "Z", C([1.0]), T(0.0), cents(1.0, 1.0, 5), "Z", cents(2.0, 1.0, 7), "Z"]
+    yield "cents: no clip, no start, ended", [R(), cents(), "Z", S(MAX), cents(D, 1.0, -1), "Z",
+                                              C([1.0]), T(0.0), cents(1.0, 1.0, 5), "Z", cents(2.0, 1.0, 7), "Z"]
     yield "cents: backwards, two channels", [R(), C(ramp(9), ramp(9, 100.0)), S(0.0, 8 / RATE), "L 1", cents(0.0, -1.0, -1), "Z", cents(D, -1.0, 1199), "Z"]
     yield "cents: 44,100 to 48,000", [R(), C(ramp(200), rate=44100.0), S(), cents(0.0, 1.0, -147), "Z", cents(D, 1.0, -147), "Z"]
     yield "cents: stop and duration", [R(), C(ramp(300)), S(0.0, 0.0, 100 / RATE), T(90 * DT), cents(0.0, 1.0, 350), "Z"]
-    yield "unknown lines in cents", [R(), "D", "D 0 0 0", "d" + cents()[1:], cents() + " 4096 0 0", cents() + " 65537", cents() + " x", cents() + " 4096 536870913",
-                                     cents()[:-1], cents() + "0", cents() + " ", " " + cents(), f"D {x64(0.0)} 3F800000 {x64(1.0)}", f"D {x64(0.0)} 3F800000 fffffff0",
+    yield "unknown lines in cents", [R(), "D", "D 0 0 0", "d" + cents()[1:], cents() + " 4096 0 0", cents() + " 65537",
+                                     cents() + " x", cents() + " 4096 536870913",
+                                     cents()[:-1], cents() + "0", cents() + " ", " " + cents(),
+                                     f"D {x64(0.0)} 3F800000 {x64(1.0)}", f"D {x64(0.0)} 3F800000 fffffff0",
                                      f"D {x64(0.0)} 3F800000 -0000001", f"D {x64(0.0)} {x64(1.0)} 00000000", f"D  {x64(0.0)} 3F800000 00000000", "Z"]
     yield "words given up by a block in cents", [R(), "C 1 2 473B8000", "W 3F800000", cents(), "Z"]
 
@@ -495,7 +501,8 @@ def converted_to_one():
     yield "convert two frames, unusual ones, to one", [R(), *(Q(RATE, 24000.0, [word, 1.0]) for word in ODD), *(Q(RATE, 24000.0, [1.0, word]) for word in ODD)]
     yield "convert to one frame, and one rate further to two", [R(), Q(RATE, 24000.0, ramp(2)), Q(RATE, 24000.001953125, ramp(2))]
     yield "convert one frame up", [R(), *(Q(24000.0, RATE, [word]) for word in (3.0, *ODD)), Q(44100.0, RATE, [7.0]), Q(3000.0, 768000.0, ["7F800001"])]
-    yield "convert 2 and 32 channels to one frame", [R(), Q(RATE, 24000.0, ramp(2), [9.0, "7F800001"]), Q(RATE, 16000.0, *(ramp(3, 10.0 * c) for c in range(32)))]
+    yield "convert 2 and 32 channels to one frame", [R(), Q(RATE, 24000.0, ramp(2), [9.0, "7F800001"]),
+                                                     Q(RATE, 16000.0, *(ramp(3, 10.0 * c) for c in range(32)))]
     yield "convert 768,000 to 3,000", [R(), *(Q(768000.0, 3000.0, ramp(n)) for n in (1, 2, 255, 256, 257, 258))]
 
 
@@ -510,7 +517,8 @@ def converted_past_the_last():
     for name, rate in (("just above", 47999.99609375), ("just below", 48000.00390625)):
         yield f"convert: read {name} N - 1, up", [R(), *(Q(24000.0, rate, [1.0, word]) for word in (3.0, *ODD))]
     for rate, other, n in ((3000.0, 44100.0, 11), (3000.0, 22050.0, 21), (9000.0, 7000.0, 28), (9000.0, 7000.0, 55)):
-        yield f"convert: the product first, {n} frames, {rate:.0f} to {other:.0f}", [R(), *(Q(rate, other, [*ramp(n - 1), word]) for word in (100.0, "7F800001"))]
+        yield f"convert: the product first, {n} frames, {rate:.0f} to {other:.0f}", [R(),
+                                                                                     *(Q(rate, other, [*ramp(n - 1), word]) for word in (100.0, "7F800001"))]
     yield "convert: the last frame is held for long", [R(), *(Q(3000.0, 768000.0, [0.0, word]) for word in (1.0, "7F800001"))]
     yield "convert: a position of N", [R(), Q(44100.0, RATE, [*ramp(146), "FFC12345"])]
 
@@ -520,13 +528,19 @@ def converted_between():
     yield "convert 8,000 to 48,000", [R(), Q(8000.0, RATE, ramp(5)), Q(8000.0, RATE, [0.1, -0.7, 0.3, 0.9, "FFC00001"], [1.0, 0.0, -1.0, 0.0, 1.0])]
     yield "convert 48,000 to 8,000", [R(), *(Q(RATE, 8000.0, ramp(n)) for n in (5, 6, 7, 12, 13))]
     wave = [0.1 * (-1) ** i * i for i in range(20)]
-    yield "convert 44,100 to 48,000 and back", [R(), Q(44100.0, RATE, wave), Q(RATE, 44100.0, wave), Q(RATE, 44100.0, ramp(160)), Q(44100.0, RATE, wave, ramp(20))]
-    yield "convert at rates with fractions", [R(), Q(44100.50390625, 48000.25, ramp(9)), Q(3000.000244140625, 3000.125, ramp(9)), Q(96000.7578125, 4096.5, ramp(50)),
+    yield "convert 44,100 to 48,000 and back", [R(), Q(44100.0, RATE, wave), Q(RATE, 44100.0, wave),
+                                                Q(RATE, 44100.0, ramp(160)), Q(44100.0, RATE, wave, ramp(20))]
+    yield "convert at rates with fractions", [R(), Q(44100.50390625, 48000.25, ramp(9)), Q(3000.000244140625, 3000.125, ramp(9)),
+                                              Q(96000.7578125, 4096.5, ramp(50)),
                                               Q(3000.000244140625, 767999.9375, ramp(2))]
-    yield "convert just beyond 0.1, up and down", [R(), Q(RATE, 48000.1015625, ramp(30)), Q(RATE, 47999.8984375, ramp(30)), Q(3000.0, 3000.1000976562, ramp(30)),
+    yield "convert just beyond 0.1, up and down", [R(), Q(RATE, 48000.1015625, ramp(30)), Q(RATE, 47999.8984375, ramp(30)),
+                                                   Q(3000.0, 3000.1000976562, ramp(30)),
                                                   Q(3000.0, 3000.0998535156, ramp(3))]
     yield "convert unusual frames", [R(), Q(24000.0, RATE, ODD), Q(32000.0, RATE, ODD), Q(RATE, 44100.0, ODD, ODD[::-1])]
-    yield "convert: each step rounded", [R(), *(Q(32000.0, RATE, [x32(a), x32(b), 0.0]) for a, b in ((0.1, 0.7), (1.0000001, -1.0000002), (3e38, 3.3e38), (1e-45, 3e-45)))]
+    yield "convert: each step rounded", [R(),
+                                         *(Q(32000.0, RATE, [x32(a), x32(b), 0.0])
+                                           for a, b in ((0.1, 0.7), (1.0000001, -1.0000002), (3e38, 3.3e38), (1e-45, 3e-45)))]
     yield "convert 32 channels", [R(), Q(24000.0, RATE, *([float(c), c + 1.0] for c in range(32)))]
-    yield "convert, refused", [R(), words(f"Q 1 1 {x32(RATE)} 7F800000", 1.0), words(f"Q 1 1 7FC00000 {x32(RATE)}", 1.0), words(f"Q 1 2 {x32(2999.0)} {x32(768001.0)}", 1.0, 2.0),
+    yield "convert, refused", [R(), words(f"Q 1 1 {x32(RATE)} 7F800000", 1.0), words(f"Q 1 1 7FC00000 {x32(RATE)}", 1.0),
+                               words(f"Q 1 2 {x32(2999.0)} {x32(768001.0)}", 1.0, 2.0),
                                f"Q 0 2 {x32(RATE)} {x32(24000.0)}", f"Q 1 16777217 {x32(RATE)} {x32(3000.0)}", Q(RATE, 24000.0, ramp(2))]

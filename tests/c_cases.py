@@ -14,14 +14,15 @@ import tempfile
 from pathlib import Path
 
 sys.path.insert(0, str(Path(__file__).resolve().parent.parent / "tools"))
-import transcripts  # noqa: E402
-from shared import CC, TOP, Checks, library, options, program, run, subject  # noqa: E402
-from shared.bits import x64  # noqa: E402
+import transcripts
+from shared import CC, TOP, Checks, library, options, program, run, subject
+from shared.bits import x64
 
 C = TOP / "target/c"
 WARN = ["-Wall", "-Wextra", "-Werror", "-pedantic", "-ffp-contract=off", f"-I{TOP}/include", "-D_DEFAULT_SOURCE"]
 STATIC = [str(C / "libnetthimble.a"), "-lm"]
 SHARED = [f"-L{C}", "-lnetthimble", f"-Wl,-rpath,{C}", "-lm"]
+SOURCES = ["examples/c/play.c", *(f"tests/c/{name}.c" for name in ("cases", "tolerances", "convert", "factors", "trial", "replay"))]
 RANDOM_RUNS = 60
 check = Checks("c")
 
@@ -43,7 +44,7 @@ def programs(folder):
         links = [("static", STATIC), ("shared", SHARED)] if number == 0 else [("static", STATIC)]
         for kind, link in links:
             made = {}
-            for source in ("examples/c/play.c", "tests/c/cases.c", "tests/c/tolerances.c", "tests/c/convert.c", "tests/c/factors.c", "tests/c/trial.c", "tests/c/replay.c"):
+            for source in SOURCES:
                 out = Path(folder, f"{Path(source).stem}{number}{kind}")
                 done = run([compiler, *flags, *WARN, "-o", out, TOP / source, *(["-x", "none"] if "-x" in flags else []), *link])
                 check(f"{compiler} {' '.join(flags)} {source}, {kind}", done.returncode == 0, done.stdout.decode()[:300])

@@ -14,10 +14,10 @@ from pathlib import Path
 from typing import NamedTuple
 
 sys.path.insert(0, str(Path(__file__).resolve().parent.parent / "tools"))
-import transcripts  # noqa: E402
-import wav_to_clip  # noqa: E402
-from shared import TOP, Checks, library, program, run, seeds, subject  # noqa: E402
-from shared.bits import bits32, float32  # noqa: E402
+import transcripts
+import wav_to_clip
+from shared import TOP, Checks, library, program, run, seeds, subject
+from shared.bits import bits32, float32
 
 check = Checks("clip files")
 

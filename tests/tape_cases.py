@@ -11,7 +11,7 @@ from functools import partial
 from pathlib import Path
 
 sys.path.insert(0, str(Path(__file__).resolve().parent.parent / "tools"))
-from shared import TOP, Checks, library, seeds  # noqa: E402
+from shared import TOP, Checks, library, seeds
 
 sys.path.insert(0, str(TOP / "python"))
 LATEST = 2.0**30

@@ -12,8 +12,8 @@ from fractions import Fraction
 from pathlib import Path
 
 sys.path.insert(0, str(Path(__file__).resolve().parent.parent / "tools"))
-from shared import TOP, Checks, library, seeds  # noqa: E402
-from shared.bits import single  # noqa: E402
+from shared import TOP, Checks, library, seeds
+from shared.bits import single
 
 sys.path.insert(0, str(TOP / "python"))
 NEVER = 1.7976931348623157e308
@@ -156,7 +156,8 @@ class Script:
         return r.choice([0.0, -0.0, 1.0, 2.0**-60, 2.0**-40, 2.0**-26, 2.0**-10, 0.1, 2.0**-1074, beside(r, own), beside(r, own), beside(r, own)])
 
     def zeros(self, r):
-        return r.choice([0.0, 1.0, 2.0**-60, 2.0**-26, 2.0**-26, 2.0**-10, beside(r, self.step), beside(r, self.step * r.randint(0, 9)), beside(r, self.offset)])
+        near = beside(r, self.step), beside(r, self.step * r.randint(0, 9)), beside(r, self.offset)
+        return r.choice([0.0, 1.0, 2.0**-60, 2.0**-26, 2.0**-26, 2.0**-10, *near])
 
     def player(self, tolerances):
         p = netthimble.Player(self.rate, tolerances=tolerances)

@@ -14,6 +14,7 @@ from shared.bits import x64 as f64
 
 NEVER = "7FEFFFFFFFFFFFFF"
 ZERO = "0000000000000000"
+MINUS_ONE, NAN, INFINITY = (f64(float(x)) for x in ("-1", "nan", "inf"))
 ONE, TWO, THREE = 0x3F800000, 0x40000000, 0x40400000
 START = f"S {ZERO} {ZERO} {NEVER}\n"
 
@@ -112,7 +113,8 @@ CASES = [
     ("no start", clip([ONE]), "B\n", block(0, 0, 0, SILENCE)),
     ("stop at 0", clip([ONE]), START + f"T {ZERO}\nB\n", block(0, 1, 1, [[0] * 128])),
     # refusals that a line can reach: 9, 10, 11 (13 only after 2^30 seconds; 8, 12, 14 and 1 never)
-    ("9", clip([ONE]), f"S {f64(-1.0)} {ZERO} {ZERO}\nS {ZERO} {f64(float('nan'))} {ZERO}\nS {ZERO} {ZERO} {f64(float('inf'))}\nT {f64(-1.0)}\nP {f64(float('inf'))}\nE FFF8000000000001\n", "X 9\n" * 6),
+    ("9", clip([ONE]), f"S {MINUS_ONE} {ZERO} {ZERO}\nS {ZERO} {NAN} {ZERO}\nS {ZERO} {ZERO} {INFINITY}\nT {MINUS_ONE}\nP {INFINITY}\nE FFF8000000000001\n",
+     "X 9\n" * 6),
     ("10", clip([ONE]), START + START, "X 10\n"),
     ("11", clip([ONE]), f"T {ZERO}\n", "X 11\n"),
     ("9 before 10 and 11", clip([ONE]), f"T {f64(-1.0)}\n" + START + f"S {f64(-1.0)} {ZERO} {ZERO}\n", "X 9\nX 9\n"),

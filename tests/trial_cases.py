@@ -11,8 +11,8 @@ import time
 from pathlib import Path
 
 sys.path.insert(0, str(Path(__file__).resolve().parent.parent / "tools"))
-from shared import Checks, options, subject  # noqa: E402
-from transcripts import CASES, FOLDER, ONE, SILENCE, block, clip, given  # noqa: E402
+from shared import TOP, Checks, options, program, run, subject
+from transcripts import CASES, FOLDER, ONE, SILENCE, START, block, clip, given
 
 check = Checks("trial")
 
@@ -30,14 +30,18 @@ def printed(lines, folder, prefix=()):
         return child.communicate()[0]
 
 
+def unprivileged():
+    """What a command is prefixed with, so that permissions count: root reads and writes everything. None where that cannot be."""
+    if os.geteuid() != 0:
+        return []
+    return ["setpriv", "--reuid=65534", "--regid=65534", "--clear-groups"] if shutil.which("setpriv") else None
+
+
 def unreadable():
-    """A clip.bin that trial may not read, and what it prints; None where that cannot be tried. Root reads everything, so
-    there trial runs as nobody, if nobody can run it at all."""
-    prefix = []
-    if os.geteuid() == 0:
-        if not shutil.which("setpriv"):
-            return None
-        prefix = ["setpriv", "--reuid=65534", "--regid=65534", "--clear-groups"]
+    """A clip.bin that trial may not read, and what it prints; None where that cannot be tried, since nobody can run it."""
+    prefix = unprivileged()
+    if prefix is None:
+        return None
     with tempfile.TemporaryDirectory() as folder:
         os.chmod(folder, 0o755)
         file = Path(folder, "clip.bin")
@@ -65,8 +69,153 @@ def program_cases():
         check("no read permission", got == b"X 15\n", f"printed {got[:200]!r}, expected 'X 15'")
 
 
+# ---- ./trial, in a folder of its own with a toolchain that is made up: rt says where its C library is, proves nothing and tries what it is told to
+
+RT = """#!/bin/sh
+case $1 in
+doc) echo {doc} ;;
+run) mkdir -p out && cp {made} out/trial && touch out/trial.stamp && echo proved >> {log} ;;
+lib) mkdir -p out/rlib && touch out/rlib/stamp ;;
+try) cat > /dev/null; printf '%s' "{printed}"; echo "{said}" >&2; exit {status} ;;
+esac
+"""
+MADE = "#!/bin/sh\ncat clip.bin | wc -c\ncat\n"
+
+
+class Top:
+    """A copy of ./trial with tools/prove, below one folder, with a clip of 20 bytes and lines."""
+
+    def __init__(self, folder):
+        self.folder, self.log = Path(folder), Path(folder, "log")
+        for name in ("tools", "crates/trial/src", "bin", "kit", "clips"):
+            self.path(name).mkdir(parents=True)
+        for name in ("trial", "tools/prove"):
+            shutil.copy(TOP / name, self.path(name))
+        self.path("tools/costs.tsv").write_text("name\tfunctions\tseconds\tedits\ntrial\t1\t1\t0\n")
+        self.path("crates.txt").write_text("trial:\n")
+        self.path("crates/trial/src/main.rt").touch()
+        self.path("clips/clip.bin").write_bytes(clip([ONE]))
+        self.path("clips/lines").write_text("B\n")
+        self.script("made", MADE)
+        self.tool()
+
+    def path(self, name):
+        return self.folder / name
+
+    def script(self, name, text):
+        self.path(name).write_text(text)
+        self.path(name).chmod(0o755)
+
+    def tool(self, printed="tried", said="run=ended status=0 runners=1 proved=no", status=0):
+        """What `rt try` does."""
+        own = {"doc": self.path("kit/doc"), "made": self.path("made"), "log": self.log}
+        self.script("bin/rt", RT.format(printed=printed, said=said, status=status, **own))
+
+    def built(self):
+        self.path("crates/trial/out").mkdir()
+        self.script("crates/trial/out/trial", MADE)
+
+    def run(self, *words, given=b"", prefix=(), tools=True):
+        path = f"{self.path('bin')}:/usr/bin:/bin" if tools else "/usr/bin:/bin"
+        return run([*prefix, self.path("trial"), *words], given, self.folder, stderr=subprocess.PIPE, env={"PATH": path})
+
+
+def told(name, done, status, stdout, *stderr):
+    """The status, all of standard output, and the lines of standard error, of which words are given; none but these."""
+    lines = done.stderr.decode().splitlines()
+    same = done.returncode == status and done.stdout.decode() == stdout and len(lines) == len(stderr)
+    same = same and all(word in line and line.startswith("trial: ") for word, line in zip(stderr, lines))
+    check(f"./trial, {name}", same, f"status {done.returncode}, {done.stdout[:100]!r}, {lines}")
+
+
+def with_top(case):
+    with tempfile.TemporaryDirectory() as folder:
+        os.chmod(folder, 0o755)
+        case(Top(folder))
+
+
+def options_and_absences(top):
+    for word in ("--help", "-h"):
+        done = top.run(word)
+        check(f"./trial {word}", done.returncode == 0 and done.stdout.startswith(b"usage: ./trial") and not done.stderr, done)
+    for words in (["-x"], ["--proved"], ["clips", "clips/lines", "more"]):
+        done = top.run(*words)
+        check(f"./trial {words}", done.returncode == 2 and not done.stdout and done.stderr.startswith(b"usage: ./trial"), done)
+    told("no folder", top.run("none"), 2, "", "there is no folder none")
+    told("no lines", top.run("clips", "none"), 2, "", "can't be read: none")
+    told("lines are a folder", top.run("clips", "clips"), 2, "", "can't be read: clips")
+    told("no clip", top.run("bin"), 1, "X 15\n", "no clip.bin that can be read")
+    told("no clip, quiet", top.run("-q", "bin"), 1, "X 15\n", "no clip.bin that can be read")
+    top.path("kit/clip.bin").mkdir()
+    told("the clip is a folder", top.run("kit"), 1, "X 15\n", "no clip.bin that can be read")
+    if shutil.which("rt", path="/usr/bin:/bin") is None:
+        told("no rt", top.run("clips", tools=False), 2, "", "rt, the Rattle toolchain's command, is not on PATH")
+    prefix = unprivileged()
+    if prefix is None or top.run("--help", prefix=prefix).returncode != 0:
+        print("trial: ./trial without permissions was not tried: nobody can't run it here")
+        return
+    told("a folder that can't be written", top.run("--prove", "clips", prefix=prefix), 2, "", "crates/trial/out, which can't be written")
+    top.path("clips/lines").chmod(0)
+    told("lines that can't be read", top.run("clips", "clips/lines", prefix=prefix), 2, "", "can't be read: clips/lines")
+    top.path("clips/clip.bin").chmod(0)
+    told("a clip that can't be read", top.run("clips", "-", prefix=prefix), 1, "X 15\n", "no clip.bin that can be read")
+
+
+def tried_runs(top):
+    """Without a proved program."""
+    words = "this run is tried and not proved", "obeying"
+    told("tried", top.run("clips"), 0, "tried", *words)
+    told("tried, quiet", top.run("-q", "clips"), 0, "tried")
+    top.tool(status=3, said="run=ended status=3 proved=no")
+    told("tried, with a status", top.run("clips"), 3, "tried", *words)
+    top.tool("", "run=no-answer proved=no", 6)
+    told("tried, too long", top.run("clips"), 6, "", *words, "For longer inputs: ./trial --prove")
+    top.tool("", "trial: refused", 1)
+    told("tried, refused", top.run("-q", "clips"), 1, "", "refused", "could not be tried")
+
+
+def proved_runs(top):
+    """--prove proves, and then the proved program is used where it stands."""
+    done = top.run("--prove", "-q", "clips")
+    told("--prove", done, 0, "20\nB\n")
+    told("proved", top.run("clips"), 0, "20\nB\n", "plays clip.bin of")
+    told("proved, other lines", top.run("-q", "clips", "-", given=b"L 1\n"), 0, "20\nL 1\n")
+    check("./trial proves only where it is asked", top.log.read_text() == "proved\n", top.log.read_text())
+    top.path("clips/lines").unlink()
+    told("proved, standard input", top.run("clips", given=b"L 0\n"), 0, "20\nL 0\n", "standard input")
+
+
+# ---- ./trial as it stands here
+
+
+def as_it_stands():
+    """The shipped tone by the proved program, and by a copy of the crates without one, which is tried."""
+    done = run([TOP / "trial", "-q"], stderr=subprocess.PIPE)
+    check("./trial", done.returncode == 0 and done.stdout.startswith(b"B 0 1 0 1\n") and not done.stderr, done.stderr.decode())
+    with tempfile.TemporaryDirectory() as folder:
+        Path(folder, "clip.bin").write_bytes(clip([ONE])[:-1])
+        refused = run([TOP / "trial", "-q", folder], START.encode(), stderr=subprocess.PIPE)
+        check("./trial, a refused clip", (refused.returncode, refused.stdout, refused.stderr) == (0, b"X 15\n", b""), refused)
+    with tempfile.TemporaryDirectory() as folder:
+        for name in ("trial", "crates.txt"):
+            shutil.copy(TOP / name, folder)
+        for name in ("crates", "examples"):
+            shutil.copytree(TOP / name, Path(folder, name), ignore=shutil.ignore_patterns("out"))
+        began = time.monotonic()
+        tried = run([Path(folder, "trial")], stderr=subprocess.PIPE)
+        took = time.monotonic() - began
+    check("./trial, tried", tried.returncode == 0 and tried.stdout == done.stdout, tried.stderr.decode())
+    check("./trial says that it is tried", b"tried and not proved" in tried.stderr, tried.stderr.decode())
+    print(f"trial: the run that was tried took {took:.0f} s")
+
+
 def main():
+    if not program("trial").exists():
+        sys.exit("trial: crates/trial/out/trial is not built: tools/prove trial")
     program_cases()
+    for case in (options_and_absences, tried_runs, proved_runs):
+        with_top(case)
+    as_it_stands()
     return check.ended()
 
 

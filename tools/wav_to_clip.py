@@ -1,19 +1,20 @@
 #!/usr/bin/env python3
-"""Makes a clip file from a WAV file of 16, 24 or 32 bits: frames FIRST to FIRST + COUNT of it, or all.
-A clip has 1 to 32 channels, a rate of 3,000 to 768,000 and at most 65,536 bytes, or some 16,000 samples in all."""
-import argparse
+"""Makes a clip file from a WAV file of 16, 24 or 32 bits: frames FIRST to FIRST + COUNT of it, or all. A clip has 1 to 32 channels, a rate of 3,000 to
+768,000 and at most 65,536 bytes, or some 16,000 samples in all.
+"""
 import struct
 import sys
 from pathlib import Path
 
-sys.dont_write_bytecode = True
-sys.path.insert(0, str(Path(__file__).resolve().parent.parent / "python/netthimble"))
-import wav  # noqa: E402  by itself, without the library
+from shared import TOP, options
+
+sys.path.insert(0, str(TOP / "python/netthimble"))
+import wav  # by itself, without the library
 
 
-def options():
-    use = "tools/wav_to_clip [--onset FRAME | --old] sound.wav clip.bin [FIRST [COUNT]]"
-    words = argparse.ArgumentParser(usage=use, description=__doc__, formatter_class=argparse.RawDescriptionHelpFormatter)
+def parser():
+    words = options(__doc__)
+    words.usage = "tools/wav_to_clip.py [--onset FRAME | --old] sound.wav clip.bin [FIRST [COUNT]]"
     words.add_argument("sound", metavar="sound.wav")
     words.add_argument("clip", metavar="clip.bin")
     words.add_argument("first", metavar="FIRST", nargs="?", type=int, default=0)
@@ -47,7 +48,8 @@ def main(given):
     channels, frames = len(rows), len(rows[0])
     size = length(channels, frames, given.old)
     if size > 65536 or not frames or not 1 <= channels <= 32 or not 3000 <= rate <= 768000:
-        sys.exit(f"{given.sound}: not a clip: {channels} channels, {frames} frames, {rate} a second, {size} bytes (1 to 32, 1 or more, 3,000 to 768,000, at most 65,536)")
+        has = f"{channels} channels, {frames} frames, {rate} a second, {size} bytes"
+        sys.exit(f"{given.sound}: not a clip: {has} (1 to 32, 1 or more, 3,000 to 768,000, at most 65,536)")
     if given.old and given.onset is not None:
         sys.exit("--old: this header has no onset")
     onset = given.onset or 0
@@ -62,4 +64,4 @@ def main(given):
 
 
 if __name__ == "__main__":
-    main(options().parse_intermixed_args())
+    main(parser().parse_intermixed_args())

@@ -1,7 +1,7 @@
 """What the scripts of tests/, oracle/ and tools/ share. A script of tests/ or oracle/ begins so; one of tools/ needs no such line:
 
     sys.path.insert(0, str(Path(__file__).resolve().parent.parent / "tools"))
-    from shared import TOP, Checks, library, options, run  # noqa: E402
+    from shared import TOP, Checks, library, options, run
 
     check = Checks("tape")                       # counts; prints each that fails
 
