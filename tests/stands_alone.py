@@ -1,6 +1,7 @@
 #!/usr/bin/env python3
 """The repository stands alone: no file that git tracks, nor its name, cites a paper that a reader doesn't have, a path of some machine or a package
-registry; and each section that is cited is one of docs/REFERENCE.md. Each finding is a line 'file:line: what'.
+registry; each section that is cited is one of docs/REFERENCE.md; and each file that is named or linked is there. Each finding is a line
+'file:line: what'.
 
 A section is cited so: docs/REFERENCE.md, 'Name', or 'Name' and 'Other name', all on one line. The patterns are tried on made-up lines first.
 Passed over are records of work (docs/changes; their names count), NOTICE, and this file.
@@ -49,6 +50,8 @@ PATTERNS = [
 ]
 LEADER = re.compile(r"\n[ \t]*(?://[/!]?|--|#|\*(?!/)|;|\|)?")
 CITED = re.compile(r"\bREFERENCE\.md,( *)(?=(.?))")
+NAMED = re.compile(r"(?<![\w/.~$}{-])(?:tests|tools|oracle|docs|include|examples)/(?!NAME)[\w/.-]*\w")
+LINKED = re.compile(r"\]\(([^)\s#:]+)(?:#[^)]*)?\)")
 NEXT = re.compile(r",? and (?=')|, (?=')")
 
 
@@ -83,6 +86,16 @@ def sections(text, headings):
                 yield found.start(), None, "a section's name that ends in another line"
             else:
                 yield found.start(), name, None if name in headings else f"docs/REFERENCE.md has no section '{name}'"
+
+
+def absent(file, text):
+    """The files that this one names, or links to, and that are not there."""
+    for found in NAMED.finditer(text):
+        if found[0] != REFERENCE and not (TOP / found[0]).exists():
+            yield found.start(), f"there is no {found[0]}"
+    for found in LINKED.finditer(text) if file.endswith(".md") else ():
+        if not (TOP / file).parent.joinpath(found[1]).exists():
+            yield found.start(), f"a link to {found[1]}, which is not there"
 
 
 def in_text(text):
@@ -160,7 +173,8 @@ in /home/someone
 see /work/main
 from /tmp/w/base
 of https://crates.io/x
-from files.pythonhosted.org"""
+from files.pythonhosted.org
+at registry.npmjs.com"""
 ORDINARY = """a factor of 2.5
 0.6 to 1.2 times
 2.5 ns and 2.4 %
@@ -192,6 +206,12 @@ CITATIONS = [
     ("docs/REFERENCE.md,\n-- 'Clip file'", ["a section's name in another line than docs/REFERENCE.md"]),
     ("docs/REFERENCE.md, 'Clip\n-- file'", ["a section's name that ends in another line"]),
 ]
+FILES = [
+    ("as tests/stands_alone.py and `tools/prove`, tests/c/*.c, docs/", []),
+    ("[one](../README.md), [two](../README.md#here), [three](https://example.com/x), crates/x/tests/none, target/tools/none, tools/NAME.c", []),
+    ("tests/stands_alon tools/prove.", ["there is no tests/stands_alon"]),
+    ("see [one](README.md)", ["a link to README.md, which is not there"]),
+]
 NAMES = [
     ("docs/changes/2.6-switch.md", True), ("docs/changes/0-rooms.md", True), ("docs/changes/cents.md", False), ("specs/2.6-tape.antt", True),
     ("docs/02-change-requests.md", True), ("src/main.rt", False), ("kit-13f.txt", False), ("tests/document_01.py", True),
@@ -203,8 +223,12 @@ def self_test():
     wrong = [f"not found: {lines!r}" for lines in re.split(r"\n(?!//[^!]|-- )", FOUND) if not list(in_text(lines))]
     wrong += [f"found: {line!r}, {what}" for line in ORDINARY.split("\n") for _, what in in_text(line)]
     wrong += [f"found: {what}, in all ordinary lines" for _, what in in_text(ORDINARY)]
+    wrong += [f"a pattern that finds none of the lines: {pattern.pattern}" for _, _, pattern in PATTERNS if not pattern.search(flow(FOUND))]
     for text, expected in CITATIONS:
         found = [what for _, _, what in sections(text, SECTIONS) if what]
+        wrong += [] if found == expected else [f"{text!r}: {found}"]
+    for text, expected in FILES:
+        found = [what for _, what in absent("docs/made-up.md", text)]
         wrong += [] if found == expected else [f"{text!r}: {found}"]
     return wrong + [f"the name {name}: {in_name(name)}" for name, is_wrong in NAMES if bool(in_name(name)) != is_wrong]
 
@@ -224,7 +248,7 @@ def main():
             continue
         text = text_of(file)
         starts = [0, *(found.end() for found in re.finditer("\n", text))]
-        told = list(in_text(text))
+        told = [*in_text(text), *absent(file, text)]
         for at, name, wrong in sections(text, known):
             cited += name is not None
             told += [(at, wrong)] if wrong and (known or name is None) else []
