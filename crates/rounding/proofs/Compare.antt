@@ -132,10 +132,10 @@ le_or a b = go (order a b)
     go (more h) = ap₂ (λ (t u : Bool). t || u) (le-ltb a b (le_of_lt h)) (ne_eqb a b (other h)) ∙ sym (lt-leb a b h)
     go (none e) = ap₂ (λ (t u : Bool). t || u) (le-ltb a b (le_of_eq (sym e))) (eq-eqb a b e) ∙ sym (le-leb a b (le_of_eq e))
 
-holds : {t : Bool} → t ≡ true → T t
+pub holds : {t : Bool} → t ≡ true → T t
 holds e = subst T (sym e) tt
 
-fails : {t : Bool} → t ≡ false → T (not t)
+pub fails : {t : Bool} → t ≡ false → T (not t)
 fails e = subst (λ (u : Bool). T (not u)) (sym e) tt
 
 module _ (x y : Float) (a c b d : ℕ) (C : 0 < c) (D : 0 < d) (h : HasValue x false a c) (k : HasValue y false b d) where

@@ -128,7 +128,7 @@ units_above : (f : Format) (m k : ℕ) → lt (units f false m k) (of_bits f 0) 
 unfolding units
 units_above f m k = above_zero f (ltb (m * 2 ^ k) (2 ^ (low f + suc (emax f)))) m k
 
-not_below_zero : (f : Format) (n q : ℕ) → lt (round f false n q) (of_bits f 0) ≡ false
+pub not_below_zero : (f : Format) (n q : ℕ) → lt (round f false n q) (of_bits f 0) ≡ false
 not_below_zero f n q = ap (λ (x : Float). lt x (of_bits f 0)) (round_is f false n q) ∙ units_above f _ _
 
 pub euclid_plus : (f : Format) (x y : Float) (t : Bool) (a c b d : ℕ) → 0 < c → 0 < d → 0 < b → HasValue x false a c → HasValue y t b d → rem_euclid f x y ≡ rem f x y

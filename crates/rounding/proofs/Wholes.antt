@@ -22,7 +22,7 @@ use Rattle.rounding.proofs.Read.{read, read_inf, digits_lt, field_le, no_nan_bit
 lifted_le : (a c n : ℕ) → 0 < c → a ≤ n * c → lifted a c ≤ n
 lifted_le a c n C h = le_of_suc-le-suc ((div-lt_iff_lt-mul C).1 (subst (λ (x : ℕ). a + (c - 1) < x) (sym (suc-mul n c)) (omega arith)))
 
-lifted_ge : (a c : ℕ) → 0 < c → a ≤ lifted a c * c
+pub lifted_ge : (a c : ℕ) → 0 < c → a ≤ lifted a c * c
 lifted_ge a c C =
     let e = div-add-mod' (a + (c - 1)) c in
     let l = mod-lt (a + (c - 1)) C in
@@ -37,7 +37,7 @@ lifted_mono a c b d C D e =
 pub lifted_same : (a c b d : ℕ) → 0 < c → 0 < d → a * d ≡ b * c → lifted a c ≡ lifted b d
 lifted_same a c b d C D e = le_antisymm (lifted_mono a c b d C D e) (lifted_mono b d a c D C (sym e))
 
-half_same : (a c b d : ℕ) → 0 < c → 0 < d → a * d ≡ b * c → half_up a c ≡ half_up b d
+pub half_same : (a c b d : ℕ) → 0 < c → 0 < d → a * d ≡ b * c → half_up a c ≡ half_up b d
 half_same a c b d C D e =
     div_same (2 * a + c) (2 * c) (2 * b + d) (2 * d) (mul-pos (zero-lt-suc 1) C) (mul-pos (zero-lt-suc 1) D)
     (add-mul (2 * a) c (2 * d) ∙ sum (2 * a * (2 * d)) (2 * b * (2 * c)) (c * (2 * d)) (d * (2 * c)) (four a d ∙ ap (λ (x : ℕ). 4 * x) e ∙ sym (four b c)) (simp (mul_comm, mul_left_comm)) ∙ sym (add-mul (2 * b) d (2 * c)))
@@ -71,13 +71,13 @@ pub value_down : (x : Float) (s : Bool) (a k l : ℕ) → HasValue x s (a * 2 ^ 
 value_down x s a k l v = value_same x s (a * 2 ^ k) (2 ^ (l + k)) a (2 ^ l) (pow_pos (l + k)) v (mul_right_comm a (2 ^ k) (2 ^ l) ∙ mul_assoc a (2 ^ l) (2 ^ k) ∙ ap (λ (z : ℕ). a * z) (sym (pow-add 2 l k)))
 
 -- ---- a value that is whole
-cut_one : (n : ℕ) → cut n 1 ≡ n
+pub cut_one : (n : ℕ) → cut n 1 ≡ n
 cut_one n = div-one n
 
-lifted_one : (n : ℕ) → lifted n 1 ≡ n
+pub lifted_one : (n : ℕ) → lifted n 1 ≡ n
 lifted_one n = omega arith
 
-half_one : (n : ℕ) → half_up n 1 ≡ n
+pub half_one : (n : ℕ) → half_up n 1 ≡ n
 half_one n = omega arith
 
 either : (s : Bool) (a b n : ℕ) → a ≡ n → b ≡ n → cond s a b ≡ n

@@ -9,10 +9,10 @@ use Rattle.rounding.specs.Rounding.{floor, round_away, convert, narrow}
 abbrev pub over : ℕ → ℕ → Float
 over m k = fin false m (negsuc (k - 1))
 
-abbrev minus_over : ℕ → ℕ → Float
+abbrev pub minus_over : ℕ → ℕ → Float
 minus_over m k = fin true m (negsuc (k - 1))
 
-abbrev whole : ℕ → Float
+abbrev pub whole : ℕ → Float
 whole n = fin false n (pos 0)
 
 abbrev pub minus_whole : ℕ → Float

@@ -5,6 +5,7 @@ use Rattle.std.specs.Prelude.{◌≡◌, ℕ, ◌+◌, ◌-◌, ◌*◌, ◌%◌
 use lib.Ieee.{Float, Format, prec, emax, low, round, add, sub, mul, div, rem, le, fits, of_int}
 use Rattle.std.specs.Float.Ieee.Exact.{HasValue}
 use Rattle.std.specs.Float.Ieee.Scale.{overflow}
+use Rattle.rounding.specs.Wholes.{WholeLaws, TruncateLaws, EuclidLaws}
 
 -- |x - y| ≤ t
 abbrev pub Within : ℕ → ℕ → ℕ → Type 0
@@ -56,3 +57,7 @@ pub record RoundingLaws : Type 0 where
       → HasValue y t b (2 ^ low f) → 0 < b → HasValue (rem f x y) s (a % b) (2 ^ low f)
   pub sterbenz : (f : Format) (x y : Float) (a b : ℕ) → T (fits f x) → T (fits f y) → HasValue x false a (2 ^ low f) → HasValue y false b (2 ^ low f)
       → b ≤ a → a ≤ 2 * b → HasValue (sub f x y) false (a - b) (2 ^ low f)
+  -- floor, ceil, round half away from zero, truncation and the Euclidean remainder, in plain numbers (specs/Wholes.antt)
+  pub wholes : (f : Format) → WholeLaws f
+  pub truncation : TruncateLaws
+  pub euclid : (f : Format) → EuclidLaws f

@@ -3,6 +3,7 @@
 use lib.Ieee.Order.{round_mono}
 use Rattle.rounding.proofs.Difference.{sterbenz}
 use Rattle.rounding.proofs.Error.{round_near}
+use Rattle.rounding.proofs.Euclid.{euclid, truncation, wholes}
 use Rattle.rounding.proofs.Exact.{round_same_float, whole_exact, mul-pow}
 use Rattle.rounding.proofs.Modulo.{rem_exact}
 use Rattle.rounding.proofs.Operations.{add_near, sub_near, mul_near, div_near}
@@ -22,4 +23,7 @@ returns c =
       power = mul-pow;
       remainder = rem_exact;
       sterbenz = sterbenz;
+      wholes = wholes;
+      truncation = truncation;
+      euclid = euclid;
     }
