@@ -7,7 +7,7 @@ use lib.Ieee.Fits.{up_pos}
 use lib.Ieee.Order.{round_mono}
 use lib.Ieee.Scale.{round_same}
 use Rattle.rounding.specs.Rounding.{floor, ceil, round_away, magnitude, rem_euclid}
-use Rattle.rounding.specs.Wholes.{Divides, WholeLaws, TruncateLaws, EuclidLaws}
+use Rattle.rounding.specs.Wholes.{InUnits, WholeLaws, TruncateLaws, EuclidLaws}
 use Rattle.rounding.proofs.Compare.{lt_value, is_le, holds, fails}
 use Rattle.rounding.proofs.Exact.{round_same_float, value_same}
 use Rattle.rounding.proofs.Integral.{floor_plus, floor_minus, ceil_plus, ceil_minus, away, floor_fits, ceil_fits, away_fits, truncate_plus, truncate_past, truncate_minus}
@@ -47,24 +47,24 @@ module _ (f : Format) (x : Float) (a c : ℕ) (C : 0 < c) where
 
 -- ---- x is a units with the sign s, y is b units with the sign t
 module _ (f : Format) (x y : Float) where
-  rest : (s t : Bool) (a b : ℕ) → Divides f x y s t a b → HasValue (rem f x y) s (a % b) (2 ^ low f)
+  rest : (s t : Bool) (a b : ℕ) → InUnits f x y s t a b → HasValue (rem f x y) s (a % b) (2 ^ low f)
   rest s t a b d = rem_exact f x y s t a b d.0 d.1 d.2 d.3 d.4
 
-  size_of : (s t : Bool) (a b : ℕ) → Divides f x y s t a b → HasValue (magnitude y) false b (2 ^ low f)
+  size_of : (s t : Bool) (a b : ℕ) → InUnits f x y s t a b → HasValue (magnitude y) false b (2 ^ low f)
   size_of s t a b d = magnitude_value y t b (2 ^ low f) d.3
 
-  pub plus : (t : Bool) (a b : ℕ) → Divides f x y false t a b → HasValue (rem_euclid f x y) false (a % b) (2 ^ low f)
+  pub plus : (t : Bool) (a b : ℕ) → InUnits f x y false t a b → HasValue (rem_euclid f x y) false (a % b) (2 ^ low f)
   plus t a b d =
       let r = rest false t a b d in
       subst (λ (z : Float). HasValue z false (a % b) (2 ^ low f)) (sym (from_rest f x y (plus_zero f (rem f x y) (a % b) (2 ^ low f) (pow_pos (low f)) r))) r
 
-  pub minus_none : (t : Bool) (a b : ℕ) → Divides f x y true t a b → a % b ≡ 0 → HasValue (rem_euclid f x y) true 0 1
+  pub minus_none : (t : Bool) (a b : ℕ) → InUnits f x y true t a b → a % b ≡ 0 → HasValue (rem_euclid f x y) true 0 1
   minus_none t a b d e =
       let r = rest true t a b d in
       subst (λ (z : Float). HasValue z true 0 1) (sym (from_rest f x y (minus_zero f (rem f x y) (a % b) (2 ^ low f) (pow_pos (low f)) r e)))
       (value_same (rem f x y) true (a % b) (2 ^ low f) 0 1 (pow_pos (low f)) r (omega arith))
 
-  pub minus_some : (t : Bool) (a b : ℕ) → Divides f x y true t a b → 0 < a % b → rem_euclid f x y ≡ round f false (b - a % b) (2 ^ low f)
+  pub minus_some : (t : Bool) (a b : ℕ) → InUnits f x y true t a b → 0 < a % b → rem_euclid f x y ≡ round f false (b - a % b) (2 ^ low f)
   minus_some t a b d l =
       let u = 2 ^ low f in
       let U : 0 < u = pow_pos (low f) in
@@ -91,7 +91,7 @@ module _ (f : Format) (x y : Float) where
       go zero e = inl e
       go (suc k) e = inr (subst (λ (z : ℕ). 0 < z) (sym e) (zero-lt-suc k))
 
-  pub not_below : (s t : Bool) (a b : ℕ) → Divides f x y s t a b → T (not (lt (rem_euclid f x y) (of_bits f 0)))
+  pub not_below : (s t : Bool) (a b : ℕ) → InUnits f x y s t a b → T (not (lt (rem_euclid f x y) (of_bits f 0)))
   unfolding Case
   not_below false t a b d = fails (plus_zero f (rem_euclid f x y) (a % b) (2 ^ low f) (pow_pos (low f)) (plus t a b d))
   not_below true t a b d = go (case a b)
@@ -100,7 +100,7 @@ module _ (f : Format) (x y : Float) where
       go (inl e) = fails (minus_zero f (rem_euclid f x y) 0 1 (zero-lt-suc 0) (minus_none t a b d e) refl)
       go (inr l) = fails (ap (λ (z : Float). lt z (of_bits f 0)) (minus_some t a b d l) ∙ not_below_zero f (b - a % b) (2 ^ low f))
 
-  pub at_most : (s t : Bool) (a b : ℕ) → Divides f x y s t a b → T (le (rem_euclid f x y) (magnitude y))
+  pub at_most : (s t : Bool) (a b : ℕ) → InUnits f x y s t a b → T (le (rem_euclid f x y) (magnitude y))
   unfolding le Case
   at_most false t a b d =
       is_le (rem_euclid f x y) (magnitude y) (a % b) (2 ^ low f) b (2 ^ low f) (pow_pos (low f)) (pow_pos (low f)) (plus t a b d) (size_of false t a b d)

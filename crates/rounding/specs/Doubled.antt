@@ -1,4 +1,4 @@
--- A divisor that is doubled, for the remainder. Definitions only.
+-- docs/REFERENCE.md, 'Rounding': a divisor that is doubled, on the way to the remainder. Definitions only.
 use Rattle.std.specs.Prelude.{ℕ, ◌*◌, ◌/◌, ◌^◌, false, T, Float}
 use Rattle.std.specs.Float.{binary64}
 use Rattle.std.specs.Float.Ieee.{low, fits}

@@ -5,7 +5,7 @@ use Rattle.std.specs.Float.{nan, fin, binary32, binary64}
 use Rattle.rounding.specs.Near.{near_tolerance, rate_tolerance}
 use Rattle.rounding.specs.Rounding.{floor, round_away, convert, narrow}
 
--- m / 2 ^ k, for a k of at least 1, and n
+-- m / 2 ^ k, for a k of at least 1, and n, each with either sign
 abbrev pub over : ℕ → ℕ → Float
 over m k = fin false m (negsuc (k - 1))
 

@@ -37,8 +37,8 @@ Are x y a c b d = (0 < c) × (0 < d) × HasValue x false a c × HasValue y false
 pub record RoundingLaws : Type 0 where
   -- the error of one rounding, of a sum, a difference, a product, a quotient
   pub round_error : (f : Format) (a c : ℕ) → 0 < c → Normal f a c → Below f a c → Rounded f (round f false a c) a c
-  pub add_error : (f : Format) (x y : Float) (a c b d : ℕ) → Are x y a c b d → Normal f (a * d + b * c) (c * d) → Below f (a * d + b * c) (c * d)
-      → Rounded f (add f x y) (a * d + b * c) (c * d)
+  pub add_error : (f : Format) (x y : Float) (a c b d : ℕ) → Are x y a c b d
+      → Normal f (a * d + b * c) (c * d) → Below f (a * d + b * c) (c * d) → Rounded f (add f x y) (a * d + b * c) (c * d)
   pub sub_error : (f : Format) (x y : Float) (a c b d : ℕ) → Are x y a c b d → b * c ≤ a * d
       → Normal f (a * d - b * c) (c * d) → Below f (a * d - b * c) (c * d) → Rounded f (sub f x y) (a * d - b * c) (c * d)
   pub mul_error : (f : Format) (x y : Float) (a c b d : ℕ) → Are x y a c b d → Normal f (a * b) (c * d) → Below f (a * b) (c * d)
@@ -55,8 +55,8 @@ pub record RoundingLaws : Type 0 where
       → a * 2 ^ t < overflow f → HasValue (mul f x w) s (a * 2 ^ t) (2 ^ low f)
   pub remainder : (f : Format) (x y : Float) (s t : Bool) (a b : ℕ) → T (fits f x) → T (fits f y) → HasValue x s a (2 ^ low f)
       → HasValue y t b (2 ^ low f) → 0 < b → HasValue (rem f x y) s (a % b) (2 ^ low f)
-  pub sterbenz : (f : Format) (x y : Float) (a b : ℕ) → T (fits f x) → T (fits f y) → HasValue x false a (2 ^ low f) → HasValue y false b (2 ^ low f)
-      → b ≤ a → a ≤ 2 * b → HasValue (sub f x y) false (a - b) (2 ^ low f)
+  pub sterbenz : (f : Format) (x y : Float) (a b : ℕ) → T (fits f x) → T (fits f y)
+      → HasValue x false a (2 ^ low f) → HasValue y false b (2 ^ low f) → b ≤ a → a ≤ 2 * b → HasValue (sub f x y) false (a - b) (2 ^ low f)
   -- floor, ceil, round half away from zero, truncation and the Euclidean remainder, in plain numbers (specs/Wholes.antt)
   pub wholes : (f : Format) → WholeLaws f
   pub truncation : TruncateLaws

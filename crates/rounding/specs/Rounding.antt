@@ -23,7 +23,7 @@ widen b = from_bits binary32 b
 abbrev pub whole : ℕ → Float
 whole n = of_int binary64 (pos n)
 
--- ---- whole numbers. The sign is kept, so that -0.5 goes up to -0.
+-- ---- whole numbers. The sign is kept, so that -0.5 goes up to -0. What they are in plain numbers stands in specs/Wholes.antt.
 
 -- a / c cut, raised to the next whole number, and to the nearest one, where a half goes up
 abbrev pub cut : ℕ → ℕ → ℕ
@@ -35,16 +35,19 @@ lifted a c = (a + (c - 1)) / c
 abbrev pub half_up : ℕ → ℕ → ℕ
 half_up a c = (2 * a + c) / (2 * c)
 
+-- the greatest whole number that is not above x
 unfoldable pub floor : Format → Float → Float
 floor f nan = nan
 floor f (inf s) = inf s
 floor f (fin s m e) = round f s (cond s (lifted (m * up e) (down e)) (cut (m * up e) (down e))) 1
 
+-- the least whole number that is not below x
 unfoldable pub ceil : Format → Float → Float
 ceil f nan = nan
 ceil f (inf s) = inf s
 ceil f (fin s m e) = round f s (cond s (cut (m * up e) (down e)) (lifted (m * up e) (down e))) 1
 
+-- the whole number nearest to x, a half going away from zero
 unfoldable pub round_away : Format → Float → Float
 round_away f nan = nan
 round_away f (inf s) = inf s

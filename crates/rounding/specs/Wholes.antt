@@ -1,6 +1,6 @@
 -- docs/REFERENCE.md, 'Rounding': what floor, ceil, round half away from zero, truncation and the Euclidean remainder are, in plain numbers.
 -- The claims hold for a format f as a parameter, f32 or f64, and for each value of it.
--- `HasValue x s a c` (lib.Ieee.Exact) says that x is the fraction a / c, negative where s is true; so `HasValue x true 0 1` says that x is -0.
+-- `HasValue x s a c` (lib.Ieee.Exact) says that x is the fraction a / c, negative where s is true; `HasValue x true 0 1` says that x is -0.
 -- Floor, ceil and round half away are IEEE 754's roundToIntegralTowardNegative, TowardPositive and TiesToAway.
 use Rattle.std.specs.Prelude.{◌≡◌, ℕ, ◌+◌, ◌-◌, ◌*◌, ◌%◌, ◌^◌, ◌<◌, ◌≤◌, Bool, true, false, not, T, pos, from_bits}
 use Rattle.std.specs.Float.{nan, inf, fin, binary32, binary64}
@@ -58,19 +58,20 @@ pub record TruncateLaws : Type 0 where
   pub of_nan : truncate nan ≡ 0
 
 -- x is a units of the format, with the sign s, and y is b units, not zero. A unit is the format's smallest value, 2 ^ -low f.
-abbrev pub Divides : Format → Float → Float → Bool → Bool → ℕ → ℕ → Type 0
-Divides f x y s t a b = T (fits f x) × T (fits f y) × HasValue x s a (2 ^ low f) × HasValue y t b (2 ^ low f) × (0 < b)
+abbrev pub InUnits : Format → Float → Float → Bool → Bool → ℕ → ℕ → Type 0
+InUnits f x y s t a b = T (fits f x) × T (fits f y) × HasValue x s a (2 ^ low f) × HasValue y t b (2 ^ low f) × (0 < b)
 
 -- the remainder that is not negative. Truncating division of a by b leaves a % b
 pub record EuclidLaws (f : Format) : Type 0 where
   -- of a dividend that is not negative, that is it, exactly
-  pub plus : (x y : Float) (t : Bool) (a b : ℕ) → Divides f x y false t a b → HasValue (rem_euclid f x y) false (a % b) (2 ^ low f)
+  pub plus : (x y : Float) (t : Bool) (a b : ℕ) → InUnits f x y false t a b → HasValue (rem_euclid f x y) false (a % b) (2 ^ low f)
   -- of a negative one it is -0 where nothing is left, and else what is missing to the divisor's size, rounded once
-  pub minus_none : (x y : Float) (t : Bool) (a b : ℕ) → Divides f x y true t a b → a % b ≡ 0 → HasValue (rem_euclid f x y) true 0 1
-  pub minus_some : (x y : Float) (t : Bool) (a b : ℕ) → Divides f x y true t a b → 0 < a % b → rem_euclid f x y ≡ round f false (b - a % b) (2 ^ low f)
+  pub minus_none : (x y : Float) (t : Bool) (a b : ℕ) → InUnits f x y true t a b → a % b ≡ 0 → HasValue (rem_euclid f x y) true 0 1
+  pub minus_some : (x y : Float) (t : Bool) (a b : ℕ) → InUnits f x y true t a b → 0 < a % b
+      → rem_euclid f x y ≡ round f false (b - a % b) (2 ^ low f)
   -- so it is never below zero, nor above the divisor's size, which it can be equal to (`KnownWholes`)
-  pub not_below : (x y : Float) (s t : Bool) (a b : ℕ) → Divides f x y s t a b → T (not (lt (rem_euclid f x y) (from_bits f 0)))
-  pub at_most : (x y : Float) (s t : Bool) (a b : ℕ) → Divides f x y s t a b → T (le (rem_euclid f x y) (magnitude y))
+  pub not_below : (x y : Float) (s t : Bool) (a b : ℕ) → InUnits f x y s t a b → T (not (lt (rem_euclid f x y) (from_bits f 0)))
+  pub at_most : (x y : Float) (s t : Bool) (a b : ℕ) → InUnits f x y s t a b → T (le (rem_euclid f x y) (magnitude y))
   -- the NaN where the dividend is an infinity, the divisor zero, or one of them the NaN
   pub of_infinity : (s : Bool) (y : Float) → rem_euclid f (inf s) y ≡ nan
   pub by_zero : (x y : Float) (t : Bool) → HasValue y t 0 1 → rem_euclid f x y ≡ nan
