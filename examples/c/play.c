@@ -12,6 +12,9 @@
 static uint8_t file[65537];
 static uint32_t out[NETTHIMBLE_OUT];
 
+/* A player's record is static, or set to zeros: it is never memory in which nothing was stored. */
+static netthimble_player player;
+
 static int refused(const char *call, uint32_t number) {
     printf("%s: refused with %u\n", call, (unsigned)number);
     return 1;
@@ -33,7 +36,6 @@ int main(int count, char **words) {
     printf("clip: %zu channel(s) of %zu frames at %g, onset %u\n", clip.shape.channels, clip.shape.frames, clip.shape.rate, (unsigned)clip.onset);
 
     /* a player at the clip's rate, started at 0 and looped */
-    netthimble_player player;
     if ((refusal = netthimble_player_new(&player, clip.shape.rate)) != 0) return refused("new", refusal);
     if ((refusal = netthimble_player_set_buffer(&player, clip.shape.channels, clip.shape.frames, clip.shape.rate, samples, samples_len)) != 0) return refused("set_buffer", refusal);
     if ((refusal = netthimble_player_start(&player, 0.0, 0.0, NETTHIMBLE_NEVER)) != 0) return refused("start", refusal);
@@ -48,6 +50,7 @@ int main(int count, char **words) {
         if (n == 4) netthimble_player_stop(&player, time + 64.0 / clip.shape.rate);
         netthimble_block block = netthimble_player_process(&player, out, NETTHIMBLE_OUT, samples, samples_len, time, 1.0f, 1.0);
         if (block.refusal != 0) return refused("block", block.refusal);
+        /* the clip's first channel; a block that is silent answers one channel alone (examples/c/ears.c) */
         printf("block %d: %08X %08X %08X .. %08X, position %.9f, ended %d\n", n, (unsigned)out[0], (unsigned)out[1], (unsigned)out[2], (unsigned)out[127], block.position, block.ended);
     }
     free(samples);

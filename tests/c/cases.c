@@ -45,7 +45,7 @@ static void rates(void) {
 }
 
 static void messages(void) {
-    netthimble_player fresh, p, q;
+    netthimble_player fresh = zeroed(), p, q;
     double bad[] = {NAN, INFINITY, -INFINITY, -1.0, -4.9e-324};
     CHECK(netthimble_player_new(&fresh, 48000.0f) == 0);
     CHECK(netthimble_stop(fresh, 1).refusal == 11);
@@ -79,7 +79,7 @@ static void messages(void) {
 }
 
 static void buffer_call(void) {
-    netthimble_player fresh, p;
+    netthimble_player fresh = zeroed(), p;
     uint32_t *samples = lent(6, 0x3F800000);
     CHECK(netthimble_player_new(&fresh, 48000.0f) == 0);
     p = fresh;
@@ -98,9 +98,147 @@ static void buffer_call(void) {
     CHECK(all(samples, 0, 6, 0x3F800000));
 }
 
+/* ---- the calls that store in lent memory */
+
+/* One of them, with values that are refused or not; by value it answers the same. */
+typedef uint32_t (*storing)(netthimble_player *p, bool refused);
+
+static uint32_t by_new(netthimble_player *p, bool refused) {
+    return netthimble_player_new(p, refused ? 2999.9f : 44100.0f);
+}
+
+static uint32_t by_new_with(netthimble_player *p, bool refused) {
+    netthimble_options options = netthimble_default_options();
+    CHECK(netthimble_tolerances_set(&options.tolerances, 0.25, 0.5, 0.75f) == 0);
+    return netthimble_player_new_with(p, refused ? NAN : 44100.0f, options);
+}
+
+static uint32_t by_start(netthimble_player *p, bool refused) {
+    return netthimble_player_start(p, 1, refused ? -2 : 2, 3);
+}
+
+static uint32_t by_stop(netthimble_player *p, bool refused) {
+    return netthimble_player_stop(p, refused ? NAN : 9);
+}
+
+static uint32_t by_loop_start(netthimble_player *p, bool refused) {
+    return netthimble_player_loop_start(p, refused ? INFINITY : 0.25);
+}
+
+static uint32_t by_loop_end(netthimble_player *p, bool refused) {
+    return netthimble_player_loop_end(p, refused ? NAN : 0.5);
+}
+
+static uint32_t by_set_buffer(netthimble_player *p, bool refused) {
+    return netthimble_player_set_buffer(p, 1, refused ? 0 : 1, 48000.0f, (const uint32_t *)"abcd", refused ? 0 : 1);
+}
+
+/* Refused, each leaves every byte, those between the fields too: of a fresh player, of one that has received everything, and of memory that
+ * no call made, all 0 or all 1. Such memory has a start and a buffer, so each message to it that could alter it is tried. */
+static void refused_stores(void) {
+    const storing calls[] = {by_new, by_new_with, by_start, by_stop, by_loop_start, by_loop_end, by_set_buffer};
+    const uint32_t number[] = {2, 2, 9, 9, 9, 9, 12};
+    uint32_t *samples = lent(2, 0x3F800000);
+    netthimble_player kinds[4];
+    memset(kinds, 0, sizeof kinds);
+    memset(&kinds[3], 1, sizeof kinds[3]);
+    CHECK(netthimble_player_new(&kinds[0], 48000.0f) == 0);
+    kinds[1] = kinds[0];
+    CHECK(netthimble_player_set_buffer(&kinds[1], 2, 1, 48000.0f, samples, 2) == 0 && netthimble_player_start(&kinds[1], 4, 5, 6) == 0);
+    for (size_t k = 0; k < 4; k++) {
+        for (size_t i = 0; i < sizeof calls / sizeof *calls; i++) {
+            netthimble_player p, before;
+            memcpy(&p, &kinds[k], sizeof p);
+            memcpy(&before, &p, sizeof p);
+            CHECK(calls[i](&p, true) == (number[i] == 12 && k % 2 ? 10 : number[i]));
+            CHECK(memcmp(&p, &before, sizeof p) == 0);
+        }
+        netthimble_player p;
+        memcpy(&p, &kinds[k], sizeof p);
+        CHECK(netthimble_player_start(&p, 0, 0, 1) == (k % 2 ? 10 : 0) && (memcmp(&p, &kinds[k], sizeof p) == 0) == (k % 2 == 1));
+        memcpy(&p, &kinds[k], sizeof p);
+        CHECK(netthimble_player_stop(&p, 1) == (k % 2 ? 0 : 11) && (memcmp(&p, &kinds[k], sizeof p) == 0) == (k % 2 == 0));
+    }
+    netthimble_tolerances t, before;
+    memset(&t, 1, sizeof t);
+    memcpy(&before, &t, sizeof t);
+    CHECK(netthimble_tolerances_set(&t, 0, 2, 0) == 18 && memcmp(&t, &before, sizeof t) == 0);
+}
+
+/* Accepted, each stores what the call by value answers, in every field; and stores as much in memory that no call made. */
+static void accepted_stores(void) {
+    uint32_t *samples = lent(2, 0x3F800000);
+    netthimble_player fresh = netthimble_new(48000.0f).player, full = fresh, made = netthimble_new(44100.0f).player;
+    CHECK(netthimble_player_set_buffer(&full, 2, 1, 48000.0f, samples, 2) == 0);
+    for (int k = 0; k < 2; k++) {
+        netthimble_player p, before = k ? full : fresh;
+        netthimble_told told[6];
+        storing calls[] = {by_start, by_stop, by_loop_start, by_loop_end};
+        told[0] = netthimble_start(before, 1, 2, 3);
+        told[1] = netthimble_stop(told[0].player, 9);
+        told[2] = netthimble_loop_start(told[1].player, 0.25);
+        told[3] = netthimble_loop_end(told[2].player, 0.5);
+        told[4] = netthimble_loop(told[3].player, true);
+        told[5] = netthimble_loop(told[4].player, false);
+        p = before;
+        for (int i = 0; i < 4; i++) CHECK(calls[i](&p, false) == 0 && told[i].refusal == 0 && same(&p, &told[i].player));
+        CHECK(!same(&p, &before));
+        for (int i = 4; i < 6; i++) CHECK(netthimble_player_loop(&p, i == 4) == 0 && told[i].refusal == 0 && same(&p, &told[i].player) && p.loop_state.is_looping == (i == 4));
+        memset(&p, k, sizeof p);
+        CHECK(by_new(&p, false) == 0 && same(&p, &made));
+        memset(&p, k, sizeof p);
+        CHECK(by_new_with(&p, false) == 0 && !same(&p, &made) && p.tolerances.near == 0.25 && p.tolerances.near_zero == 0.5 && p.tolerances.relabel == 0.75f);
+        p.tolerances = made.tolerances;
+        CHECK(same(&p, &made));
+    }
+}
+
+/* What a call by value answers where it is refused: a message the player that it was handed, the making one that never plays, others zeros. */
+static void refused_by_value(void) {
+    netthimble_player fresh = netthimble_new(48000.0f).player, nobody = netthimble_new(NAN).player, started = netthimble_start(fresh, 1, 2, 3).player;
+    netthimble_told told[] = {netthimble_start(started, 1, 2, 3), netthimble_start(started, NAN, 2, 3), netthimble_stop(started, -1), netthimble_loop_start(started, NAN), netthimble_loop_end(started, INFINITY)};
+    uint32_t number[] = {10, 9, 9, 9, 9};
+    for (int i = 0; i < 5; i++) CHECK(told[i].refusal == number[i] && same(&told[i].player, &started));
+    CHECK(netthimble_stop(fresh, 1).refusal == 11);
+    CHECK(nobody.render_state.ended && nobody.has_start && nobody.has_buffer && nobody.shape.channels == 0 && nobody.sample_rate == 0);
+    netthimble_tolerated t = netthimble_tolerances_new(2, 0, 0);
+    CHECK(t.refusal == 18 && t.tolerances.near == 0 && t.tolerances.near_zero == 0 && t.tolerances.relabel == 0);
+}
+
+/* ---- blocks */
+
+/* When the count of channels falls, and what keep-alive and ended say. A clip of two channels and 200 frames starts at sample 160: block 0 waits,
+ * block 1 holds the start and block 2 the end, and after it nothing is to come. A silent block answers one channel, and leaves the second as
+ * the last block left it. */
+static void counts(void) {
+    const struct {
+        size_t channels;
+        bool keep_alive, ended;
+    } expected[] = {{1, true, false}, {2, true, false}, {2, true, true}, {1, false, true}, {1, false, true}};
+    uint32_t *samples = lent(400, 0x3F800000), *out = lent(4096, 7);
+    netthimble_player p = zeroed(), q;
+    CHECK(netthimble_player_new(&p, 48000.0f) == 0 && netthimble_player_set_buffer(&p, 2, 200, 48000.0f, samples, 400) == 0);
+    q = p;
+    CHECK(netthimble_player_start(&p, 160 / 48000.0, 0, NETTHIMBLE_NEVER) == 0);
+    for (int n = 0; n < 5; n++) {
+        netthimble_block b = netthimble_player_process(&p, out, 4096, samples, 400, n * 128 / 48000.0, 1, 1);
+        CHECK(b.refusal == 0 && b.channels == expected[n].channels && b.keep_alive == expected[n].keep_alive && b.ended == expected[n].ended);
+        CHECK(n > 0 || all(out, 128, 256, 7));
+        CHECK(n < 1 || n > 2 || memcmp(out, out + 128, 4 * 128) == 0);
+        CHECK(n < 3 || (all(out, 0, 128, 0) && netthimble_float(out[128]) > 0.9f && netthimble_float(out[231]) > 0.9f && all(out, 233, 256, 0)));
+        CHECK(all(out, 256, 4096, 7));
+    }
+    /* a player that has received no start is silent, and not kept alive; it has not ended, and may still be started */
+    netthimble_block b = netthimble_player_process(&q, out, 4096, samples, 400, 0, 1, 1);
+    CHECK(b.refusal == 0 && b.channels == 1 && !b.keep_alive && !b.ended && netthimble_player_start(&q, 0, 0, 1) == 0);
+    /* a refused block answers no channel, and not that the player has ended */
+    b = netthimble_player_process(&p, out, 4096, samples, 400, 0, 1, 1);
+    CHECK(b.refusal == 13 && b.channels == 0 && !b.keep_alive && !b.ended && p.render_state.ended);
+}
+
 /* Without a buffer no samples are lent: silence, nothing plays. */
 static void silence(void) {
-    netthimble_player p;
+    netthimble_player p = zeroed();
     uint32_t *samples = lent(6, 0), *out = lent(4096, 7);
     CHECK(netthimble_player_new(&p, 48000.0f) == 0);
     netthimble_player q = p;
@@ -112,7 +250,7 @@ static void silence(void) {
 
 /* A player at 48,000 with two channels of three frames, 1 2 3 and 4 5 6, started at 0 and looped. */
 static netthimble_player looped(uint32_t *samples) {
-    netthimble_player p;
+    netthimble_player p = zeroed();
     for (uint32_t i = 0; i < 6; i++) samples[i] = i + 1;
     CHECK(netthimble_player_new(&p, 48000.0f) == 0);
     CHECK(netthimble_player_set_buffer(&p, 2, 3, 48000.0f, samples, 6) == 0);
@@ -181,7 +319,7 @@ static bool same_answer(netthimble_block a, netthimble_block b) {
 static void cents_blocks(void) {
     int32_t cents[] = {0, 1, -1, 50, 700, -1199, -1200, 1200, 12000, -12000};
     uint32_t *samples = lent(400, 0), *out = lent(4096, 7), *by_factor = lent(4096, 7), *plain = lent(4096, 7);
-    netthimble_player fresh, p;
+    netthimble_player fresh = zeroed(), p;
     CHECK(netthimble_player_new(&fresh, 48000.0f) == 0);
     for (size_t i = 0; i < 400; i++) samples[i] = netthimble_bits((float)(i * 37 % 101) - 50.0f);
     CHECK(netthimble_player_set_buffer(&fresh, 2, 200, 48000.0f, samples, 400) == 0);
@@ -237,6 +375,7 @@ static void silent_cents(void) {
     int32_t cents[] = {0, 50, -1, 1200, -12000, 12001, INT32_MIN};
     uint32_t *samples = lent(6, 0), *out = lent(4096, 7), *by_factor = lent(4096, 7);
     netthimble_player silent[4];
+    silent[0] = zeroed();
     CHECK(netthimble_player_new(&silent[0], 48000.0f) == 0);
     silent[1] = silent[0];
     CHECK(netthimble_player_start(&silent[1], 0, 0, NETTHIMBLE_NEVER) == 0);
@@ -282,7 +421,7 @@ static void previews(void) {
     uint32_t *samples = lent(400, 0), *out = lent(4096, 7), *second = lent(4096, 9), *third = lent(4096, 9);
     for (size_t i = 0; i < 400; i++) samples[i] = netthimble_bits((float)(i * 37 % 101) - 50.0f);
     for (int on = 0; on < 2; on++) {
-        netthimble_player p, twin;
+        netthimble_player p = zeroed(), twin;
         for (size_t i = 0; i < 4096; i++) second[i] = 9;
         CHECK(netthimble_player_new(&p, 48000.0f) == 0);
         CHECK(netthimble_player_preview(unwritable(&p), second, 4096, NULL, 0, 0, 1, 1).channels == 1 && all(second, 0, 128, 0) && all(second, 128, 4096, 9));
@@ -366,7 +505,7 @@ static void put(uint8_t *at, size_t count, size_t value) {
     for (size_t i = 0; i < count; i++) at[i] = (uint8_t)(value >> (8 * i));
 }
 
-/* The file's bytes by the words of documents 01 and 02, up to a page that nobody may touch: the old header, or the new one, which has the
+/* The file's bytes by the layout (docs/REFERENCE.md, 'Clip file'), up to a page that nobody may touch: the old header, or the new one, which has the
  * onset. Sample i is 0x7F800001 + i, the pattern of a NaN. */
 static uint8_t *clip_file(bool is_new, netthimble_shape s, uint32_t onset, size_t *len) {
     size_t fields = is_new ? 16 : 12, header = fields + 4 * s.channels;
@@ -630,6 +769,10 @@ int main(void) {
     rates();
     messages();
     buffer_call();
+    refused_stores();
+    accepted_stores();
+    refused_by_value();
+    counts();
     silence();
     refused_blocks();
     blocks();

@@ -45,6 +45,13 @@ static inline netthimble_shape shape(size_t channels, size_t frames, float rate)
     return s;
 }
 
+/* A record in which no call has stored yet, as it may be lent to the call that makes a player. */
+static inline netthimble_player zeroed(void) {
+    netthimble_player p;
+    memset(&p, 0, sizeof p);
+    return p;
+}
+
 /* Where the fields of a player lie, and the bytes of each; then those of a refusal behind it. */
 static const size_t field_at[] = {0, 8, 16, 24, 32, 40, 48, 56, 64, 72, 73, 80, 88, 89, 96, 97, 104, 112, 120, 128, 136, 144, 152, 160, 168};
 static const size_t field_size[] = {4, 8, 8, 8, 8, 1, 8, 8, 8, 1, 1, 8, 1, 1, 1, 1, 8, 8, 4, 1, 8, 8, 8, 4, 4};

@@ -1,4 +1,4 @@
-/* Conversions beside a reading of document 02, 2.4 and 2.7, with the processor's floats: known cases, and random shapes, rates, frames and
+/* Conversions beside a reading of their rule (docs/REFERENCE.md, 'Conversion'), with the processor's floats: known cases, and random shapes, rates, frames and
  * tolerances. Use: convert [SEED [COUNT]]. Prints what differs, and a line of counts. tests/c_cases builds it with -ffp-contract=off and runs it. */
 #include <inttypes.h>
 #include <math.h>

@@ -99,7 +99,7 @@ enum { KINDS = 8 };
 static void players(void) {
     float bad[] = {0.0f, -48000.0f, 2999.0f, 768001.0f, NAN, INFINITY};
     for (size_t i = 0; i < KINDS; i++) {
-        netthimble_player p, plain = netthimble_new(48000.0f).player;
+        netthimble_player p = zeroed(), plain = netthimble_new(48000.0f).player;
         netthimble_told t = netthimble_new_with(48000.0f, options(kinds[i]));
         CHECK(t.refusal == 0 && alike(t.player.tolerances, kinds[i]) && same(&t.player, &plain) == (i == 0));
         CHECK(netthimble_player_new_with(&p, 48000.0f, options(kinds[i])) == 0 && same(&p, &t.player));
@@ -109,7 +109,7 @@ static void players(void) {
             netthimble_player nobody = netthimble_new(bad[k]).player;
             t = netthimble_new_with(bad[k], options(kinds[i]));
             CHECK(t.refusal == 2 && same(&t.player, &nobody));
-            CHECK(netthimble_player_new_with(&p, bad[k], options(kinds[i])) == 2 && same(&p, &nobody));
+            CHECK(netthimble_player_new_with(&p, bad[k], options(kinds[i])) == 2 && same(&p, &plain));
         }
     }
     CHECK(alike(netthimble_new(NAN).player.tolerances, netthimble_default_options().tolerances));
@@ -119,7 +119,7 @@ static void players(void) {
 static void kept(void) {
     uint32_t *samples = lent(400, 0x3F800000), *out = lent(4096, 7);
     for (size_t i = 0; i < KINDS; i++) {
-        netthimble_player p;
+        netthimble_player p = zeroed();
         netthimble_tolerances t = kinds[i];
         CHECK(netthimble_player_new_with(&p, 48000.0f, options(t)) == 0);
         CHECK(netthimble_player_stop(&p, 1) == 11 && alike(p.tolerances, t));
@@ -158,7 +158,7 @@ static uint32_t *ramp(size_t frames) {
 
 /* A player of 100 frames at 48,000, started at 0. */
 static netthimble_player begun(netthimble_tolerances t, const uint32_t *samples, double duration) {
-    netthimble_player p;
+    netthimble_player p = zeroed();
     CHECK(netthimble_player_new_with(&p, 48000.0f, options(t)) == 0);
     CHECK(netthimble_player_set_buffer(&p, 1, 100, 48000.0f, samples, 100) == 0);
     CHECK(netthimble_player_start(&p, 0, 0, duration) == 0);
@@ -169,7 +169,7 @@ static netthimble_player begun(netthimble_tolerances t, const uint32_t *samples,
 static size_t begins(netthimble_tolerances t, double seconds) {
     static uint32_t out[4096];
     uint32_t call = 0x3F800000;
-    netthimble_player p;
+    netthimble_player p = zeroed();
     CHECK(netthimble_player_new_with(&p, 768000.0f, options(t)) == 0);
     CHECK(netthimble_player_set_buffer(&p, 1, 1, 768000.0f, &call, 1) == 0);
     CHECK(netthimble_player_start(&p, seconds + 50 / 768000.0, 0, NETTHIMBLE_NEVER) == 0);
@@ -265,9 +265,22 @@ static void conversions(void) {
     converts(tolerances(1, 1, 0), 48000.0f, true);
     converts(tolerances(1, 1, -0.0f), 48000.0f, true);
     converts(tolerances(0, 0, 2.0f), 48002.0f, true);
+    /* of a record that no call made: below 0 and NaN no two rates are equal, so equal ones are converted, which keeps the place of each frame */
+    converts(tolerances(0, 0, -1), 48000.0f, false);
+    converts(tolerances(0, 0, NAN), 48000.0f, false);
 }
 
 /* ---- a record that no call made */
+
+/* Zeros are tolerances that a call makes too: only what is equal is near. They are not the defaults. */
+static void zeroed_options(void) {
+    netthimble_options o;
+    netthimble_player p = zeroed(), q = zeroed();
+    memset(&o, 0, sizeof o);
+    CHECK(alike(netthimble_tolerances_new(0, 0, 0).tolerances, o.tolerances));
+    CHECK(netthimble_player_new_with(&p, 48000.0f, o) == 0 && netthimble_player_new(&q, 48000.0f) == 0);
+    CHECK(alike(p.tolerances, tolerances(0, 0, 0)) && !same(&p, &q));
+}
 
 /* Blocks of any tolerances: the answered channels alone are written, and a second player of the same record does the same. */
 static void any_record(void) {
@@ -300,6 +313,7 @@ int main(void) {
     loops();
     zeros();
     conversions();
+    zeroed_options();
     any_record();
     printf("tolerances: %d passed, %d failed\n", passed, failed);
     return failed != 0;

@@ -28,7 +28,7 @@ int main(void) {
     netthimble_shaped_with_onset clip = netthimble_clip_with_onset((const uint8_t *)file, file_len);
     size_t samples_len = clip.shape.channels * clip.shape.frames;
     uint32_t *samples = words_of(samples_len, 0);
-    netthimble_player p;
+    static netthimble_player p;
     uint32_t refusal = clip.refusal;
     if (refusal == 0) refusal = netthimble_clip_frames_with_onset((const uint8_t *)file, file_len, samples, samples_len);
     if (refusal == 0) refusal = netthimble_player_new(&p, clip.shape.rate);

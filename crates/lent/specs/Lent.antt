@@ -1,4 +1,5 @@
--- What a call on lent memory answers, and what it leaves there, by what the call by value answers; and the answer of the factor. Definitions only.
+-- What a call on lent memory answers, and what it leaves there, by what the call by value answers; and the answer of the factor.
+-- Definitions only.
 -- A refused call leaves the player as it was, and answers its number alone (docs/REFERENCE.md, 'Refusals').
 use Rattle.std.specs.Prelude.{ℕ, false, Float, Result, Ok, Err}
 use Rattle.std.specs.Float.{binary64}

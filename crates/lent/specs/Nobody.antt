@@ -1,5 +1,5 @@
--- The player of a refused rate, and that it never plays, as one claim about the definitions: it holds a buffer of no channels, every call leaves it so,
--- and every block of such a player is refused.
+-- The player of a refused rate, and that it never plays, as one claim about the definitions: it holds a buffer of no channels, every
+-- call leaves it so, and every block of such a player is refused.
 use Rattle.std.specs.Prelude.{◌≡◌, true, false, ℕ, ◌≤◌, ℤ, Float, Result}
 use Rattle.std.specs.Float.{binary32}
 use Rattle.std.specs.Float.Ieee.{of_bits}
@@ -46,7 +46,8 @@ Mute p = (p.has_buffer ≡ true) × (p.shape.channels ≡ 0)
 abbrev pub StaysMute : Type 0
 StaysMute =
     ((p : Player) (m : ControlMessage) → Mute p → Mute (after_call p (handled p m)).player)
-    × ((p : Player) (channels frames : ℕ) (rate : Float) (length : ℕ) → Mute p → Mute (after_call p (buffered p channels frames rate length)).player)
+    × ((p : Player) (channels frames : ℕ) (rate : Float) (length : ℕ)
+    → Mute p → Mute (after_call p (buffered p channels frames rate length)).player)
 
 -- a refused block: some number, and the same player
 abbrev pub Refuses : Player → Result BlockReport Refusal → Type 0

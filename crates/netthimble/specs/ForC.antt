@@ -1,6 +1,5 @@
--- The answers of the calls for C: for each case of an answer its values and 0, or the refusal's number beside zeros (document 01, 'The shape of each
--- place': 'a definition gives this paper's number and values for each of its cases'). Definitions only.
--- The player's calls are in Lent.antt of the crate `lent`.
+-- The answers of the calls for C: for each case of an answer its values and 0, or the refusal's number beside zeros
+-- (docs/REFERENCE.md, 'Refusals'). Definitions only. The player's calls, and the number alone, are in Lent.antt of the crate `lent`.
 use Rattle.std.specs.Prelude.{ℕ, Result, Ok, Err}
 use Rattle.std.specs.Float.{binary32, binary64}
 use Rattle.std.specs.Float.Ieee.{of_bits}
@@ -27,11 +26,6 @@ clip_for (Err refused) = record { shape = no_shape; refusal = number refused }
 abbrev pub onset_for : Result WithOnset Refusal → ShapedWithOnset
 onset_for (Ok read) = record { shape = read.header.shape; onset = read.onset; refusal = 0 }
 onset_for (Err refused) = record { shape = no_shape; onset = 0; refusal = number refused }
-
--- reading a clip's frames, and writing a clip: the refusal's number, 0 for none
-abbrev pub refusal_for : {A : Type 0} → Result A Refusal → ℕ
-refusal_for (Ok values) = 0
-refusal_for (Err refused) = number refused
 
 -- a count: the frames that a copy moved, or the bytes of a file
 abbrev pub count_for : Result ℕ Refusal → Count

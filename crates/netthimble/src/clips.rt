@@ -1,4 +1,5 @@
-// The clip file: the old reader, the new one, which takes both headers, and the writer.
+//! The clip file (docs/REFERENCE.md, 'Clip file'): the old reader, the new one, which takes both
+//! headers, and the writer.
 ghost use Rattle.std.specs.Prelude.{◌≡◌, length};
 ghost use Rattle.buffer.specs.Answers.{answer_of, stored};
 ghost use Rattle.clip.specs.Reading.{clip_read, read_with_onset, frames_read, frames_read_with_onset, frames_out};
@@ -16,7 +17,7 @@ fn refusal_of<T: Drop>(answer: Result<T, Refusal>) -> u32
     answer.err().map_or(0, |refusal| refusal.number())
 }
 
-// What a clip's header says, by the old reader.
+/// What a clip's header says, by the old reader. Refused: 15, 1, 2.
 #[unsafe(no_mangle)]
 pub extern "C" fn netthimble_clip_shape(file: &[u8]) -> Shaped
     ensures { result ≡ clip_for (clip_read file.now) }
@@ -24,7 +25,8 @@ pub extern "C" fn netthimble_clip_shape(file: &[u8]) -> Shaped
     clip::read_clip(file).map(|header| header.shape).into()
 }
 
-// Stores a clip's frames, channel after channel, in a slice of just their number, by the old reader.
+/// Stores a clip's frames, channel after channel, in a slice of just their number, by the old reader.
+/// Refused: 15, 1, 2, 8.
 #[unsafe(no_mangle)]
 pub extern "C" fn netthimble_clip_frames(file: &[u8], samples: &mut [u32]) -> u32
     ensures { (result ≡ refusal_for (frames_read file.now (length samples.old)))
@@ -33,7 +35,7 @@ pub extern "C" fn netthimble_clip_frames(file: &[u8], samples: &mut [u32]) -> u3
     refusal_of(clip::read_frames(file, samples))
 }
 
-// What a clip's header says, and its onset, by the new reader.
+/// What a clip's header says, and its onset, by the new reader. Refused: 15, 1, 2, 17.
 #[unsafe(no_mangle)]
 pub extern "C" fn netthimble_clip_with_onset(file: &[u8]) -> ShapedWithOnset
     ensures { result ≡ onset_for (read_with_onset file.now) }
@@ -41,7 +43,7 @@ pub extern "C" fn netthimble_clip_with_onset(file: &[u8]) -> ShapedWithOnset
     clip::read_clip_with_onset(file).into()
 }
 
-// Stores a clip's frames as the call above does, by the new reader.
+/// Stores a clip's frames as the old reader does, by the new one. Refused: 15, 1, 2, 17, 8.
 #[unsafe(no_mangle)]
 pub extern "C" fn netthimble_clip_frames_with_onset(file: &[u8], samples: &mut [u32]) -> u32
     ensures { (result ≡ refusal_for (frames_read_with_onset file.now (length samples.old)))
@@ -50,7 +52,7 @@ pub extern "C" fn netthimble_clip_frames_with_onset(file: &[u8], samples: &mut [
     refusal_of(clip::read_frames_with_onset(file, samples))
 }
 
-// The length of the file that a clip of `len` samples is written to.
+/// The bytes of the file that a clip of `len` samples is written to. Refused: 15, 1, 2, 17.
 #[unsafe(no_mangle)]
 pub extern "C" fn netthimble_clip_length(shape: Shape, len: usize, onset: u32) -> Count
     ensures { result ≡ count_for (length_to_write shape len onset) }
@@ -58,7 +60,7 @@ pub extern "C" fn netthimble_clip_length(shape: Shape, len: usize, onset: u32) -
     clip::length_to_write(shape, len, onset).into()
 }
 
-// Writes a clip with its onset into a slice just as long as its file.
+/// Writes a clip with its onset into a slice just as long as its file. Refused: 15, 1, 2, 17, 8.
 #[unsafe(no_mangle)]
 pub extern "C" fn netthimble_clip_write(
     shape: Shape,
@@ -67,7 +69,9 @@ pub extern "C" fn netthimble_clip_write(
     file: &mut [u8],
 ) -> u32
     ensures { (result ≡ refusal_for (clip_written shape (length samples.now) onset (length file.old)))
-        × (file.new ≡ stored (answer_of (clip_written shape (length samples.now) onset (length file.old))) (written shape onset samples.now) file.old) }
+        × (file.new
+        ≡ stored (answer_of (clip_written shape (length samples.now) onset (length file.old)))
+        (written shape onset samples.now) file.old) }
 {
     refusal_of(clip::write_clip(shape, onset, samples, file))
 }

@@ -1,6 +1,7 @@
-// The library for C (include/netthimble.h): calls of `player`, `clip` and `buffer`. An answer holds
-// the number of its refusal, 0 for none; a refused call leaves the player and all lent memory as
-// they were.
+//! The library for C (include/netthimble.h): calls of `player`, `clip`, `buffer` and `reshape`. An
+//! answer holds, or is, the number of its refusal, 0 for none (docs/REFERENCE.md, 'Refusals'); a
+//! refused call leaves the player and all lent memory as they were. Samples are f32 bit patterns,
+//! channel after channel.
 #![tactic(auto)]
 
 mod buffers;
@@ -17,8 +18,9 @@ pub use playing::{
 };
 use tolerances::Tolerances;
 
-// The shape of a clip or of a buffer that is made. C sees this record and those below, and an
-// exported function can't return an enum: so a refusal's number stands beside the values.
+/// The shape of a clip or of a buffer that is made; or the number of its refusal beside no shape. C
+/// sees this record and those below, and an exported function can't return an enum: so a number
+/// stands beside the values.
 #[repr(C)]
 #[derive(Clone, Copy)]
 pub struct Shaped {
@@ -43,7 +45,7 @@ impl From<Result<Shape, Refusal>> for Shaped {
     }
 }
 
-// The shape of a clip, and the frame of the sound's onset.
+/// The shape of a clip, and the frame of the sound's onset; or the number of its refusal beside zeros.
 #[repr(C)]
 #[derive(Clone, Copy)]
 pub struct ShapedWithOnset {
@@ -74,7 +76,7 @@ impl From<Result<WithOnset, Refusal>> for ShapedWithOnset {
     }
 }
 
-// The shapes of the parts of a buffer.
+/// The shapes of the parts of a buffer; or the number of the refusal beside no shapes.
 #[repr(C)]
 #[derive(Clone, Copy)]
 pub struct Parts {
@@ -105,7 +107,7 @@ impl From<Result<(Shape, Shape), Refusal>> for Parts {
     }
 }
 
-// Tolerances that are made; or the number of their refusal beside zeros.
+/// Tolerances that are made; or the number of their refusal beside zeros.
 #[repr(C)]
 #[derive(Clone, Copy)]
 pub struct Tolerated {
@@ -133,7 +135,8 @@ impl From<Result<Tolerances, Refusal>> for Tolerated {
     }
 }
 
-// A count: of the frames that a copy moved, or of the bytes of a file.
+/// A count: of the frames that a copy moved, or of the bytes of a file; or the number of the refusal
+/// beside 0.
 #[repr(C)]
 #[derive(Clone, Copy)]
 pub struct Count {

@@ -1,4 +1,4 @@
-// The coming block, on a player that is lent and stays as it is.
+//! The coming block, on a player that is lent and stays as it is (docs/REFERENCE.md, 'Preview').
 ghost use Rattle.std.specs.Prelude.{◌≡◌, length};
 ghost use Rattle.player.specs.Block.{rendered, output};
 ghost use Rattle.cents.specs.Cents.{rendered_cents, output_cents};
@@ -7,8 +7,8 @@ ghost use Rattle.lent.specs.Lent.{after_block};
 use lent::{BlockAnswer, block_by_value, block_on_copy, cents_by_value};
 use player::Player;
 
-// Renders the coming block into a second output: what `netthimble_player_process` would answer and
-// write on a copy. The player stays as it is.
+/// Renders the coming block into a second output: what `netthimble_player_process` would answer and
+/// write on a copy. The player stays as it is. Refused: 8, 13, 14, 1.
 #[unsafe(no_mangle)]
 pub extern "C" fn netthimble_player_preview(
     p: &Player,
@@ -18,7 +18,8 @@ pub extern "C" fn netthimble_player_preview(
     rate: f32,
     factor: f64,
 ) -> BlockAnswer
-    ensures { (result ≡ (after_block p.now (rendered 128 p.now (length out.old) (length samples.now) time rate factor)).answer)
+    ensures { (result
+        ≡ (after_block p.now (rendered 128 p.now (length out.old) (length samples.now) time rate factor)).answer)
         × (p.exit.now ≡ p.entry.now)
         × (out.new ≡ output 128 p.now out.old samples.now time rate factor) }
 {
@@ -27,8 +28,9 @@ pub extern "C" fn netthimble_player_preview(
     })
 }
 
-// Renders the coming block into a second output, detuned by whole cents: what
-// `netthimble_player_process_cents` would answer and write on a copy. The player stays as it is.
+/// Renders the coming block into a second output, detuned by whole cents: what
+/// `netthimble_player_process_cents` would answer and write on a copy. The player stays as it is.
+/// Refused: 8, 13, 16, 14, 1.
 #[unsafe(no_mangle)]
 pub extern "C" fn netthimble_player_preview_cents(
     p: &Player,
