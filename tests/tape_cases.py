@@ -56,7 +56,7 @@ class Run:
 
     def __init__(self, name, rate, rows):
         self.name, self.rows, self.calls = name, rows, []
-        self.clip, self.player = netthimble.Clip(rate, rows), netthimble.Player(rate)
+        self.clip, self.player = netthimble.Clip.from_bits(rate, rows), netthimble.Player(rate)
         self.rate, self.tape = self.clip.rate, Tape(self.clip.frames)
 
     def begin(self, when=0.0, offset=0.0, loops=(), r=None):

@@ -166,8 +166,8 @@ class Script:
         return p
 
     def message(self, p):
-        p.loop_start(self.loop_start)
-        p.loop_end(self.loop_end)
+        p.set_loop_start(self.loop_start)
+        p.set_loop_end(self.loop_end)
         p.loop = self.loop
         p.start(self.start, self.offset, self.duration)
         if self.stop is not None:

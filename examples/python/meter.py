@@ -21,11 +21,11 @@ def levels(samples):
 
 
 clip = netthimble.load(TOP / "examples/tone/clip.bin")
-player = netthimble.Player(clip.rate)
+player = netthimble.Player(clip.sample_rate)
 player.set_clip(clip)
 player.start()
 for n in range(4):  # the tone has 300 frames: two blocks are full, the third is part silence, and the fourth is silence
-    time = netthimble.FRAMES * n / clip.rate
+    time = netthimble.FRAMES * n / clip.sample_rate
     coming = player.preview(time)
     meters = (f"channel {c} peak {peak:7.2f} dB, rms {rms:7.2f} dB" for c, (peak, rms) in enumerate(map(levels, coming.samples)))
     print(f"block {n}: " + "; ".join(meters) + (", ends" if coming.ended else ""))

@@ -10,14 +10,14 @@ import netthimble  # noqa: E402
 clip = netthimble.load(sys.argv[1] if len(sys.argv) > 1 else TOP / "examples/tone/clip.bin")
 if clip.onset:
     print(f"the sound begins at frame {clip.onset}")
-player = netthimble.Player(clip.rate)
+player = netthimble.Player(clip.sample_rate)
 player.set_clip(clip)
 player.start()  # at 0 seconds, from the clip's first frame
 player.loop = True
 for n in range(5):
-    block = player.block(netthimble.FRAMES * n / clip.rate)
+    block = player.block(netthimble.FRAMES * n / clip.sample_rate)
     # block.samples[0] is what channel 0 plays: 128 floats, to be handed to the sound device
-    print(f"block {n}: first sample {block.samples[0][0]:+.6f}, then at {block.position * clip.rate:.3f} frames of {clip.frames}")
+    print(f"block {n}: first sample {block.samples[0][0]:+.6f}, then at {block.position * clip.sample_rate:.3f} frames of {clip.frames}")
 try:
     player.start()
 except netthimble.Refused as refused:

@@ -1,39 +1,106 @@
-"""Reads WAV files of whole-number samples of 16, 24 or 32 bits. It knows nothing of the library: the package reads by it, and so does
-tools/wav_to_clip. The chunks are read here, so that every Python says the same of a file."""
+"""Samples that are whole numbers, and WAV files of them, as floats from -1 to 1. This module knows nothing of the library: the package
+reads by it, and so does the tool that makes clip files. The chunks are read here, so that every Python says the same of a file."""
+from __future__ import annotations
+
+import importlib
 import os
 import struct
+import sys
 from array import array
+from typing import IO, TYPE_CHECKING, Any, Iterator, List, Optional, Tuple, Union
+
+if TYPE_CHECKING:
+    Path = Union[str, "os.PathLike[str]"]
 
 PLAIN, FLOATS, EXTENSIBLE = 1, 3, 0xFFFE  # what a WAV file says of its samples
+LARGE = 1 << 18  # from so many bytes on it is worth a tenth of a second to import NumPy
+PART = 1 << 13  # numbers that are worked on at a time, without NumPy
 
 
-def read(path, first=0, count=None):
-    """The rate of a WAV file, and an array of floats from -1 to 1 for each channel: its frames from `first` on, `count` of them or as many as
-    there are. ValueError says why a file cannot be read so."""
+def numpy_for(size: int) -> Any:
+    """NumPy, where it is installed, and imported before or worth it for so many bytes; else None."""
+    if "numpy" in sys.modules or size >= LARGE:
+        try:
+            return importlib.import_module("numpy")
+        except ImportError:
+            pass
+    return None
+
+
+# ---- whole numbers as floats
+
+
+def scale(bits: int) -> float:
+    """What a whole number of so many bits is multiplied by: 2^(bits-1) is full scale."""
+    return 2.0 ** (1 - bits)
+
+
+def scaled(numbers: Any, bits: int) -> memoryview:
+    """Signed whole numbers of so many bits (an array of them, or memory in order) times their scale, each rounded once, to the nearest f32: up to
+    24 bits exactly. As the memory of f32."""
+    view = memoryview(numbers)
+    numpy, floats = numpy_for(view.nbytes) if view.nbytes else None, array("f")
+    if numpy is not None:
+        made = numpy.frombuffer(view, dtype=f"i{view.itemsize}").astype("f4")
+        made *= numpy.float32(scale(bits))  # a power of two: exact
+        return memoryview(made)
+    factor, held = scale(bits), array(view.format, view.tobytes())
+    for at in range(0, len(held), PART):
+        floats.fromlist([value * factor for value in held[at : at + PART]])
+    return memoryview(floats)
+
+
+def unsigned(data: Any) -> memoryview:
+    """Bytes from 0 to 255 as floats: 128 is 0."""
+    levels = [(value - 128) / 128 for value in range(256)]
+    return memoryview(array("f", map(levels.__getitem__, bytes(data))))
+
+
+def packed(data: bytes, width: int) -> memoryview:
+    """Signed samples of 2, 3 or 4 bytes each, the lowest byte first, as floats from -1 to 1: the memory of f32."""
+    if width == 3:  # as the upper bytes of four: the value is 256 times as large, and so is full scale
+        wide = bytearray(len(data) // 3 * 4)
+        for byte in range(3):
+            wide[byte + 1 :: 4] = data[byte::3]
+        data, width = wide, 4
+    return scaled(memoryview(data).cast("h" if width == 2 else "i") if data else array("h"), 8 * width)
+
+
+# ---- WAV files
+
+
+def read(path: "Path", first: int = 0, count: Optional[int] = None) -> "Tuple[int, List[array[float]]]":
+    """The sample rate of a WAV file, and an array of floats from -1 to 1 for each channel: its frames from `first` on, `count` of them or as
+    many as there are. ValueError says why a file cannot be read so."""
+    rate, rows = rows_of(path, first, count)
+    return rate, [array("f", row.tobytes()) for row in rows]
+
+
+def rows_of(path: "Path", first: int = 0, count: Optional[int] = None) -> Tuple[int, List[memoryview]]:
+    """As `read`, with each channel as memory of f32, which need not lie in order."""
     with open(path, "rb") as file:
         try:
             channels, rate, width = _format(_chunk(file, b"fmt "))
-            values = _values(file, channels * width, first, count)
+            samples = packed(_values(file, channels * width, first, count), width)
         except ValueError as wrong:
-            raise ValueError(f"{path}: {wrong}") from None
-    samples = _floats(values, width)
+            raise ValueError(f"{os.fspath(path)}: {wrong}") from None
     return rate, [samples[c::channels] for c in range(channels)]
 
 
-def _chunks(file):
+def _chunks(file: IO[bytes]) -> Iterator[Tuple[bytes, int]]:
     """The name and the size of each chunk, with the file standing at its first byte."""
     head = file.read(12)
     if len(head) < 12 or head[:4] != b"RIFF" or head[8:] != b"WAVE":
         raise ValueError("not a WAV file")
     at = 12
     while len(head := file.read(8)) == 8:
-        size = struct.unpack("<I", head[4:])[0]
+        size: int = struct.unpack("<I", head[4:])[0]
         yield head[:4], size
         at += 8 + size + size % 2
         file.seek(at)
 
 
-def _chunk(file, wanted):
+def _chunk(file: IO[bytes], wanted: bytes) -> bytes:
     """The first bytes of a chunk."""
     file.seek(0)
     for name, size in _chunks(file):
@@ -42,7 +109,7 @@ def _chunk(file, wanted):
     raise ValueError("not a WAV file: it ends too soon")
 
 
-def _format(data):
+def _format(data: bytes) -> Tuple[int, int, int]:
     """Channels, frames a second and bytes of a sample."""
     if len(data) < 16:
         raise ValueError("not a WAV file: its format is cut short")
@@ -58,7 +125,7 @@ def _format(data):
     return channels, rate, bits // 8
 
 
-def _values(file, size_of_frame, first, count):
+def _values(file: IO[bytes], size_of_frame: int, first: int, count: Optional[int]) -> bytes:
     """The bytes of the frames from `first` on."""
     file.seek(0)
     for name, size in _chunks(file):
@@ -73,9 +140,3 @@ def _values(file, size_of_frame, first, count):
         raise ValueError(f"it has {frames} frames; from {first} on, {'all' if count is None else count} of them cannot be read")
     file.seek(first * size_of_frame, os.SEEK_CUR)
     return file.read(size_of_frame * (frames - first if count is None else min(count, frames - first)))
-
-
-def _floats(data, width):
-    """Samples of `width` bytes, as floats from -1 to 1."""
-    scale = float(1 << (8 * width - 1))
-    return array("f", (int.from_bytes(data[i : i + width], "little", signed=True) / scale for i in range(0, len(data), width)))

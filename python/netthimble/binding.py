@@ -1,0 +1,199 @@
+"""The library: its records and its calls, as include/netthimble.h has them. They stay inside this package; a record is made by the
+library alone.
+
+The library is target/c/libnetthimble.so of this repository, or the file that the environment variable NETTHIMBLE_LIBRARY names."""
+from __future__ import annotations
+
+import ctypes
+import os
+from array import array
+from ctypes import POINTER, c_bool, c_double, c_float, c_int32, c_size_t, c_uint8, c_uint32
+from pathlib import Path
+from typing import Any, Dict, List, Optional, Tuple
+
+from .errors import Refused
+
+FRAMES = 128  # frames of a block
+NEVER = 1.7976931348623157e308  # the largest double: a duration that is none
+CHANNELS = 32  # the most channels
+OUT = CHANNELS * FRAMES  # the words of a block's output
+
+# ---- the records
+
+
+class Shape(ctypes.Structure):
+    channels: int
+    frames: int
+    rate: float
+    _fields_ = [("channels", c_size_t), ("frames", c_size_t), ("rate", c_float)]
+
+
+class LoopState(ctypes.Structure):
+    is_looping: bool
+    start: float
+    end: float
+    _fields_ = [("is_looping", c_bool), ("start", c_double), ("end", c_double)]
+
+
+class RenderState(ctypes.Structure):
+    buffer_time: float
+    started: bool
+    entered_loop: bool
+    buffer_time_elapsed: float
+    is_aligned: bool
+    ended: bool
+    _fields_ = [
+        ("buffer_time", c_double), ("started", c_bool), ("entered_loop", c_bool), ("buffer_time_elapsed", c_double),
+        ("is_aligned", c_bool), ("ended", c_bool),
+    ]  # fmt: skip
+
+
+class TolerancesRecord(ctypes.Structure):
+    near: float
+    near_zero: float
+    relabel: float
+    _fields_ = [("near", c_double), ("near_zero", c_double), ("relabel", c_float)]
+
+
+class Options(ctypes.Structure):
+    tolerances: TolerancesRecord
+    _fields_ = [("tolerances", TolerancesRecord)]
+
+
+class PlayerRecord(ctypes.Structure):
+    sample_rate: float
+    start_time: float
+    stop_time: float
+    offset: float
+    duration: float
+    loop_state: LoopState
+    render_state: RenderState
+    has_start: bool
+    has_buffer: bool
+    shape: Shape
+    has_block: bool
+    block_time: float
+    tolerances: TolerancesRecord
+    _fields_ = [
+        ("sample_rate", c_float), ("start_time", c_double), ("stop_time", c_double), ("offset", c_double), ("duration", c_double),
+        ("loop_state", LoopState), ("render_state", RenderState), ("has_start", c_bool), ("has_buffer", c_bool), ("shape", Shape),
+        ("has_block", c_bool), ("block_time", c_double), ("tolerances", TolerancesRecord),
+    ]  # fmt: skip
+
+
+class Tolerated(ctypes.Structure):
+    _fields_ = [("tolerances", TolerancesRecord), ("refusal", c_uint32)]
+
+
+class Told(ctypes.Structure):
+    _fields_ = [("player", PlayerRecord), ("refusal", c_uint32)]
+
+
+class BlockRecord(ctypes.Structure):
+    _fields_ = [("position", c_double), ("channels", c_size_t), ("refusal", c_uint32), ("keep_alive", c_bool), ("ended", c_bool)]
+
+
+class Factored(ctypes.Structure):
+    _fields_ = [("factor", c_double), ("refusal", c_uint32)]
+
+
+class Shaped(ctypes.Structure):
+    _fields_ = [("shape", Shape), ("refusal", c_uint32)]
+
+
+class ShapedWithOnset(ctypes.Structure):
+    _fields_ = [("shape", Shape), ("onset", c_uint32), ("refusal", c_uint32)]
+
+
+class Count(ctypes.Structure):
+    _fields_ = [("count", c_size_t), ("refusal", c_uint32)]
+
+
+# ---- the calls: what each answers, and what it is handed
+
+_WORDS, _BYTES, _PLAYER = POINTER(c_uint32), POINTER(c_uint8), POINTER(PlayerRecord)
+_RENDERED: List[Any] = [_PLAYER, _WORDS, c_size_t, _WORDS, c_size_t, c_double, c_float]
+
+# These take microseconds, and keep Python's interpreter meanwhile: a thread that let go of it for a block, as ctypes does, might get it
+# back only when another has worked for 5 ms, which is longer than a block lasts.
+SHORT: Dict[str, Tuple[Any, List[Any]]] = {
+    "player_size": (c_size_t, []),
+    "options_size": (c_size_t, []),
+    "default_options": (Options, []),
+    "tolerances_new": (Tolerated, [c_double, c_double, c_float]),
+    "new_with": (Told, [c_float, Options]),
+    "start": (Told, [PlayerRecord, c_double, c_double, c_double]),
+    "stop": (Told, [PlayerRecord, c_double]),
+    "loop": (Told, [PlayerRecord, c_bool]),
+    "loop_start": (Told, [PlayerRecord, c_double]),
+    "loop_end": (Told, [PlayerRecord, c_double]),
+    "player_set_buffer": (c_uint32, [_PLAYER, c_size_t, c_size_t, c_float, _WORDS, c_size_t]),
+    "player_process": (BlockRecord, [*_RENDERED, c_double]),
+    "player_process_cents": (BlockRecord, [*_RENDERED, c_int32]),
+    "player_preview": (BlockRecord, [*_RENDERED, c_double]),
+    "player_preview_cents": (BlockRecord, [*_RENDERED, c_int32]),
+    "factor": (Factored, [c_int32]),
+    "converted_shape_with": (Shaped, [Shape, c_size_t, c_float, TolerancesRecord]),
+    "clip_length": (Count, [Shape, c_size_t, c_uint32]),
+}
+
+# These take as long as a clip is: other threads go on meanwhile.
+LONG: Dict[str, Tuple[Any, List[Any]]] = {
+    "convert_with": (Shaped, [Shape, _WORDS, c_size_t, c_float, TolerancesRecord, _WORDS, c_size_t]),
+    "clip_shape": (Shaped, [_BYTES, c_size_t]),
+    "clip_frames": (c_uint32, [_BYTES, c_size_t, _WORDS, c_size_t]),
+    "clip_with_onset": (ShapedWithOnset, [_BYTES, c_size_t]),
+    "clip_frames_with_onset": (c_uint32, [_BYTES, c_size_t, _WORDS, c_size_t]),
+    "clip_write": (c_uint32, [Shape, c_uint32, _WORDS, c_size_t, _BYTES, c_size_t]),
+}
+
+
+def _load() -> Dict[str, Any]:
+    """The library's calls by their names; an ImportError says why it cannot be used."""
+    path = os.environ.get("NETTHIMBLE_LIBRARY") or str(Path(__file__).resolve().parents[2] / "target/c/libnetthimble.so")
+    if not Path(path).is_file():
+        raise ImportError(f"netthimble: {path} is not there. Build it with tools/build_library, or name it in NETTHIMBLE_LIBRARY")
+    try:
+        opened = ((ctypes.PyDLL(path), SHORT), (ctypes.CDLL(path), LONG))
+    except OSError as wrong:
+        raise ImportError(f"netthimble: {path} cannot be loaded: {wrong}") from None
+    calls: Dict[str, Any] = {}
+    for library, table in opened:
+        for name, (answer, given) in table.items():
+            if not hasattr(library, "netthimble_" + name):
+                raise ImportError(f"netthimble: {path} has no netthimble_{name}: it is older than this package. Build it with tools/build_library")
+            call: Any = getattr(library, "netthimble_" + name)
+            call.restype, call.argtypes = answer, given
+            calls[name] = call
+    sizes = calls["player_size"](), calls["options_size"](), array("f").itemsize, array("I").itemsize
+    if sizes != (ctypes.sizeof(PlayerRecord), ctypes.sizeof(Options), 4, 4):
+        raise ImportError(f"netthimble: the records of {path} are not those of this package")
+    return calls
+
+
+CALL = _load()
+DEFAULTS: TolerancesRecord = CALL["default_options"]().tolerances
+
+
+def check(call: str, refusal: int, argument: Optional[str] = None) -> None:
+    """Raises what the library refused."""
+    if refusal:
+        raise Refused(call, refusal, argument)
+
+
+# ---- the thread's floating-point mode
+
+_ONE, _HALF, _TINY = 1.0, 2.0**-53, 5e-324
+
+
+def check_floats() -> None:
+    """The library's answers take for granted that the processor rounds to nearest and keeps subnormal numbers, as it does when a program
+    starts. A module built with -ffast-math can change that for the thread that loads it, and an audio host for the thread of its callback."""
+    if not (_ONE + _HALF == 1.0 and -_ONE - _HALF == -1.0 and _ONE + 1.5 * _HALF > 1.0 and _TINY + _TINY > _TINY):
+        flushes = not _TINY + _TINY > _TINY
+        raise RuntimeError(
+            f"netthimble: this thread {'flushes subnormal numbers to zero' if flushes else 'does not round to nearest'}: another module, or the "
+            "audio host, has changed its floating-point mode, and answers would be wrong. In this thread, set the mode that programs start with, "
+            'by import ctypes; ctypes.CDLL("libm.so.6").fesetenv(ctypes.c_void_p(-1)), after the module is imported and at the start of a '
+            "callback's thread; or leave out the module (often one built with -ffast-math), or use it in a process of its own"
+        )
