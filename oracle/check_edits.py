@@ -7,7 +7,9 @@ import sys
 from pathlib import Path
 
 sys.path.insert(0, str(Path(__file__).resolve().parent.parent / "tools"))
-from shared import ORACLE, TOP, must, options
+from faults import is_found, parser, try_each
+
+from shared import TOP
 
 RECORDED = TOP / "crates/replay"
 
@@ -30,34 +32,19 @@ def differential(subject, scripts):
     run = [TOP / "oracle/differential.py", "--subject", subject, "--scripts", str(scripts)]
     done = subprocess.run(run, capture_output=True, text=True)
     lines = done.stdout.splitlines()
-    found = done.returncode == 1 and not lines[-1].endswith(" 0 differences")
     script = [line for line in lines[1:-1] if not line.startswith("answer line")]
-    return found, f"{lines[-1] if lines else done.stderr[-300:]}; {len(script)} lines"
+    return is_found(done), f"{lines[-1] if lines else done.stderr[-300:]}; {len(script)} lines"
 
 
-def tried(edit, given):
-    source = [given.source] if given.source else []
-    must([TOP / "oracle/build.py", *source, "--edit", edit])
-    subject = ORACLE.parent / "edited" / edit.stem
+def tried(subject, given):
     if not given.recorded:
         return differential(subject, given.scripts)
     names = recorded(subject)
     return bool(names), f"{len(names)}: {'; '.join(names)[:100]}"
 
 
-def main(given):
-    edits, missed = sorted((TOP / "oracle/edits").glob(given.only + ".edit")), 0
-    for edit in edits:
-        found, said = tried(edit, given)
-        missed += not found
-        print(f"{'found ' if found else 'MISSED'} {edit.stem}: {said}", flush=True)
-    return 1 if missed or not edits else 0
-
-
 if __name__ == "__main__":
-    words = options(__doc__)
-    words.add_argument("source", metavar="SOURCE", nargs="?", help="as oracle/build.py's")
+    words = parser(__doc__)
     words.add_argument("--scripts", type=int, default=20000)
-    words.add_argument("--only", metavar="LABEL", default="*")
     words.add_argument("--recorded", action="store_true", help="the faults must show in the recorded answers instead; prints the scripts where they do")
-    sys.exit(main(words.parse_args()))
+    sys.exit(try_each("oracle/edits", words.parse_args(), tried))
