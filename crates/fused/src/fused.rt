@@ -106,7 +106,8 @@ fn fused(a: u64, b: u64, c: u64) -> u64
     requires { (field binary64 a < 2047) × (field binary64 b < 2047) × (field binary64 c < 2047)
         × (0 < digits binary64 a) × (0 < digits binary64 b) }
     ensures { result ≡ to_bits binary64
-        (sum binary64 (unlike (negative binary64 a) (negative binary64 b)) (digits binary64 a * digits binary64 b * 2 ^ (place binary64 a + place binary64 b))
+        (sum binary64 (unlike (negative binary64 a) (negative binary64 b))
+        (digits binary64 a * digits binary64 b * 2 ^ (place binary64 a + place binary64 b))
         (negative binary64 c) (digits binary64 c * 2 ^ (place binary64 c + 1074)) (2 ^ 2148)) }
 {
     let x = place_of(a) + place_of(b);

@@ -1,5 +1,5 @@
--- Powers: a product's, and the whole root of a number, which has one value. That a power grows with its base is pow-le-pow_left and pow-lt-pow_left of
--- native.Mathlib.Nat. Assumes nothing.
+-- Powers: a product's, and the whole root of a number, which has one value. That a power grows with its base is pow-le-pow_left and
+-- pow-lt-pow_left of native.Mathlib.Nat. Assumes nothing.
 use Rattle.std.specs.Prelude.{◌≡◌, ℕ, zero, suc, ◌+◌, ◌*◌, ◌^◌, ◌≤◌, ◌<◌}
 use native.Mathlib.Nat.{le_antisymm, le_of_suc-le-suc, lt_of_not-le, lt_of_lt_of_le, lt_irrefl, le_trans, pow-zero, pow-suc, pow-le-pow_left, mul-mul-mul_comm}
 use Rattle.std.proofs.Common.{add-one}
