@@ -10,6 +10,7 @@ use lib.Ieee.Back.{round_whole}
 use lib.Ieee.Bits.{of_bits-to_bits, of_bits-fits, to_bits-of_bits}
 use lib.Ieee.Positive.{num, den, den_pos}
 use lib.Ieee.Scale.{overflow}
+use Rattle.rounding.specs.Laws.{Units}
 use Rattle.rounding.specs.Rounding.{convert, narrow, widen}
 use Rattle.rounding.proofs.Operations.{mul_value}
 use Rattle.rounding.proofs.Pattern.{value_pattern}
@@ -67,6 +68,10 @@ significand f (fin r (suc m) (pos k)) s a c t h =
 significand f (fin r (suc m) (negsuc k)) s a c t h =
     let e : 2 ^ low f ≡ 2 ^ (low f - suc k) * 2 ^ suc k = ap (λ (z : ℕ). 2 ^ z) (sym (exponent (suc k) (low f) (parts f r m (negsuc k) t).1)) ∙ pow-add 2 (low f - suc k) (suc k) in
     record { q = suc m; j = low f - suc k; short = (parts f r m (negsuc k) t).0; value = (h.0, ap (λ (z : ℕ). z * 2 ^ low f) (mul-one (suc m)) ∙ ap (λ (z : ℕ). suc m * z) e ∙ sym (mul_assoc (suc m) (2 ^ (low f - suc k)) (2 ^ suc k))) }
+
+-- so it is a whole number of units
+pub in_units : (f : Format) (x : Float) (s : Bool) (a c : ℕ) → T (fits f x) → HasValue x s a c → Units f x s
+in_units f x s a c t h = let d = significand f x s a c t h in record { units = d.q * 2 ^ d.j; value = d.value }
 
 -- ---- two floats of the format with the same value are the same
 pub same_float : (f : Format) (x y : Float) (s : Bool) (a c : ℕ) → 0 < c → T (fits f x) → T (fits f y) → HasValue x s a c → HasValue y s a c → x ≡ y

@@ -29,6 +29,11 @@ pub record Rounded (f : Format) (x : Float) (a c : ℕ) : Type 0 where
   pub value : HasValue x false units (2 ^ low f)
   pub near : Relative f units (a * 2 ^ low f) c
 
+-- x is a whole number of units, with the sign s
+pub record Units (f : Format) (x : Float) (s : Bool) : Type 0 where
+  pub units : ℕ
+  pub value : HasValue x s units (2 ^ low f)
+
 -- ---- the claims
 -- x is a / c and y is b / d, neither negative
 abbrev Are : Float → Float → ℕ → ℕ → ℕ → ℕ → Type 0
@@ -50,6 +55,8 @@ pub record RoundingLaws : Type 0 where
   -- a value of the format rounds to itself; whole numbers up to 2 ^ prec are such values
   pub itself : (f : Format) (x : Float) (s : Bool) (a c : ℕ) → 0 < c → T (fits f x) → HasValue x s a c → round f s a c ≡ x
   pub whole : (f : Format) (n : ℕ) → n ≤ 2 ^ prec f → HasValue (of_int f (pos n)) false n 1
+  -- a finite value of the format is a whole number of units, so that the claims in units speak of each
+  pub in_units : (f : Format) (x : Float) (s : Bool) (a c : ℕ) → T (fits f x) → HasValue x s a c → Units f x s
   -- a product with a power of two is exact, and so are a remainder, and the difference of values within a factor of 2 (Sterbenz)
   pub power : (f : Format) (x w : Float) (s : Bool) (a t : ℕ) → T (fits f x) → HasValue x s a (2 ^ low f) → HasValue w false (2 ^ t) 1
       → a * 2 ^ t < overflow f → HasValue (mul f x w) s (a * 2 ^ t) (2 ^ low f)

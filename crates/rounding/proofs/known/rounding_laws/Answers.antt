@@ -4,7 +4,7 @@ use lib.Ieee.Order.{round_mono}
 use Rattle.rounding.proofs.Difference.{sterbenz}
 use Rattle.rounding.proofs.Error.{round_near}
 use Rattle.rounding.proofs.Euclid.{euclid, truncation, wholes}
-use Rattle.rounding.proofs.Exact.{round_same_float, whole_exact, mul-pow}
+use Rattle.rounding.proofs.Exact.{round_same_float, whole_exact, in_units, mul-pow}
 use Rattle.rounding.proofs.Modulo.{rem_exact}
 use Rattle.rounding.proofs.Operations.{add_near, sub_near, mul_near, div_near}
 use Rattle.rounding.proofs.known.rounding_laws.Goals as goal
@@ -20,6 +20,7 @@ returns c =
       monotone = round_mono;
       itself = round_same_float;
       whole = whole_exact;
+      in_units = in_units;
       power = mul-pow;
       remainder = rem_exact;
       sterbenz = sterbenz;
