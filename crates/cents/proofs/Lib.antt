@@ -1,3 +1,3 @@
 -- The laws that the proofs of `cents` share.
 pub mod Same
-pub mod Checked
+mod Answered

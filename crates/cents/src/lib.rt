@@ -1,17 +1,20 @@
-// The block call in cents: the block call with the factor of the cents, or the refusal that comes
-// first.
+//! The block call in cents: the block call with the factor of the cents, or the refusal that comes
+//! first.
 #![tactic(auto)]
 
 ghost use Rattle.std.specs.Prelude.{◌≡◌, length};
 ghost use Rattle.cents.specs.Cents.{rendered_cents, output_cents};
 
+mod accepted;
+
+use accepted::AcceptedCents;
 use buffer::Refusal;
 use player::{BlockReport, Player};
 
-// Renders a block into the lent output, detuned by whole cents: document 02's call, beside the block call
-// and with its parameters, one by one as there. No factor of accepted cents is refused; the table is
-// looked up where the block plays. The 1 is never played: refused cents are turned down before.
-#[tactic(auto, using(crate::proofs::Checked::same))]
+/// Renders a block into the lent output, detuned by whole cents: the block call with the factor of the cents,
+/// and with its parameters. `out` has 32 parts of 128 samples, `samples` are those of the player's buffer,
+/// `time` is in seconds, and `rate` is the playback rate. Refuses 8, 13, 16 (cents outside -12,000 to 12,000),
+/// 14 (the rate) and 1, in this order. The table of the cents is looked up where the block plays.
 #[inline(always)]
 pub fn process_cents(
     p: Player,
@@ -24,8 +27,5 @@ pub fn process_cents(
     ensures { (result ≡ rendered_cents 128 p (length out.old) (length samples.now) time rate cents)
         × (out.new ≡ output_cents 128 p out.old samples.now time rate cents) }
 {
-    let bad_cents = detune::is_bad_cents(cents);
-    p.process_by(out, samples, time, rate, bad_cents, None, || {
-        detune::factor(cents).unwrap_or(1.0)
-    })
+    p.process_by(out, samples, time, rate, AcceptedCents::new(cents))
 }

@@ -2,3 +2,4 @@
 pub mod Written
 mod Sampled
 mod Limits
+pub mod Refused

@@ -1,9 +1,8 @@
 -- The limits of a block's time and factor, as the code writes them. Assumes nothing.
 use mathlib.Core.Path.{◌≡◌, refl}
-use mathlib.Core.Bool.{true, false, ◌&&◌}
+use mathlib.Core.Bool.{false}
 use lib.IntN.{pos, negsuc}
-use lib.Ieee.{binary64, fin, of_bits, le}
-use Rattle.seconds.specs.Seconds.{one}
+use lib.Ieee.{binary64, fin, of_bits}
 use Rattle.player.specs.Block.{latest}
 
 pub latest_bits : of_bits binary64 4742290407621132288 ≡ latest
@@ -17,8 +16,3 @@ slowest_bits = refl
 pub fastest_bits : of_bits binary64 4895412794951729152 ≡ fin false 1 (pos 64)
 unfolding of_bits
 fastest_bits = refl
-
--- 1 is a factor that a block may have
-pub one_passes : (le (fin false 1 (negsuc 63)) one && le one (fin false 1 (pos 64))) ≡ true
-unfolding le of_bits
-one_passes = refl

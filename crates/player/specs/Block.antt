@@ -1,6 +1,6 @@
 -- The block call (document 01, 'Output block', 'Aligned block', 'Sub-sample block', and the table's rows for a block). Definitions only.
 -- What a block does to the player doesn't depend on the frames: `plan` gives it, with how a channel's frames become its samples.
-use Rattle.std.specs.Prelude.{Bool, true, false, not, ◌&&◌, ◌||◌, cond, List, ℕ, zero, suc, ◌*◌, eqb, pos, negsuc, length, Float, Result, Ok, Err}
+use Rattle.std.specs.Prelude.{Bool, true, false, not, ◌&&◌, ◌||◌, cond, List, ℕ, zero, suc, ◌*◌, eqb, pos, length, Float, Result, Ok, Err}
 use Rattle.std.specs.Float.{fin, binary64}
 use Rattle.std.specs.Float.Ieee.{add, mul, div, lt, le, eq, ne}
 use Rattle.std.specs.Float.Ieee.Scale.{finite}
@@ -13,6 +13,7 @@ use Rattle.buffer.specs.declared.refusals.Refusal.TheVariants as refused
 use Rattle.seconds.specs.Seconds.{context, in_clip, never, float_zero, one, dt, block_seconds, block_end}
 use Rattle.player.specs.Record.{render_of, moved}
 use Rattle.player.specs.Reports.{report_from}
+use Rattle.player.specs.Factor.{is_factor}
 use Rattle.aligned.specs.Aligned.{first_frame, ends_within, aligned_sample, last_wrap, aligned_position}
 use Rattle.sub_sample.specs.SubSample.{head_of, head_at, info_of_sample}
 use Rattle.interpolated.specs.Interpolated.{sample_of}
@@ -165,7 +166,7 @@ bad_block_time p time = not (finite time) || lt time float_zero || lt latest tim
 
 -- a rate that is not finite; a factor that is a NaN or outside 2 ^ -64 .. 2 ^ 64
 unfoldable pub bad_rate : Float → Float → Bool
-bad_rate rate factor = not (finite rate) || not (le (fin false 1 (negsuc 63)) factor && le factor (fin false 1 (pos 64)))
+bad_rate rate factor = not (finite rate) || not (is_factor factor)
 
 -- the samples are not the player's buffer: its shape lies outside the limits, or their length is not channels × frames (0 without one)
 unfoldable pub bad_samples : Player → ℕ → Bool
@@ -183,6 +184,10 @@ checks n p outLength samplesLength time bad_cents rate factor =
 
 unfoldable pub checked : ℕ → Player → ℕ → ℕ → Float → Float → Float → Result Unit Refusal
 checked n p outLength samplesLength time rate factor = checks n p outLength samplesLength time false rate factor
+
+-- what a block answers whose factor is refused: only 8 and 13 come before
+unfoldable pub without_factor : ℕ → Player → ℕ → Float → Refusal → Refusal
+without_factor n p outLength time refusal = cond (not (eqb outLength (32 * n))) refused.Length (cond (bad_block_time p time) refused.Time refusal)
 
 -- ---- the answer, and what the output then holds
 abbrev pub report_of : Plan → BlockReport

@@ -2,4 +2,5 @@
 pub mod Record
 pub mod Messages
 pub mod Reports
+pub mod Factor
 pub mod Block

@@ -1,11 +1,10 @@
 // The block call. A silent block is short, and so is what stands around the channels of another: that code is
 // inlined in each call that plays a block. Channels are written by code that these calls share, so that they
 // take the same time in each of them (docs/DECISIONS.md, 'What the calls that play a block share').
-ghost use Rattle.std.specs.Prelude.{◌≡◌, true, false, not, ◌&&◌, ◌||◌, length, Err};
+ghost use Rattle.std.specs.Prelude.{◌≡◌, true, false, not, ◌&&◌, ◌||◌, length, Ok, Err};
 ghost use Rattle.std.specs.Float.Ieee.{eq, ne};
-ghost use Rattle.std.specs.Option.{unwrap_or};
 ghost use Rattle.buffer.specs.Limits.{Valid};
-ghost use Rattle.seconds.specs.Seconds.{never, one};
+ghost use Rattle.seconds.specs.Seconds.{never};
 ghost use Rattle.lists.specs.Table.{table};
 ghost use Rattle.lists.specs.Parts.{put};
 ghost use Rattle.aligned.specs.Aligned.{aligned_sample};
@@ -14,11 +13,10 @@ ghost use Rattle.interpolated.specs.Interpolated.{sample_of};
 ghost use Rattle.player.specs.Record.{render_of, moved};
 ghost use Rattle.player.specs.Reports.{report_from};
 ghost use Rattle.player.specs.Block.{silent, idle, computed_rate, has_ended, aligned_plan, sub_sample_plan, plan};
-ghost use Rattle.player.specs.Block.{bad_samples, checks, report_of, rendered, written, output};
-ghost use Rattle.buffer.specs.Answers.{answer_of, stored, after_checks};
+ghost use Rattle.player.specs.Block.{bad_samples, report_of, rendered, written, output, without_factor};
 
 use super::output::write_channels;
-use super::{BlockReport, Player, RenderState};
+use super::{BlockReport, Factor, GivesFactor, Player, RenderState};
 use aligned::{aligned_position, last_wrap};
 use buffer::{Channels, Refusal};
 use seconds::{BufferSeconds, ContextSeconds, NEVER, block_end, block_seconds};
@@ -231,11 +229,10 @@ impl Player {
         self.render_state.ended || !self.has_buffer && self.start_time.0 != NEVER
     }
 
-    // A block that no row of the table refuses, in the Rust's order of cases. The factor is asked for
-    // where the block plays.
+    // A block that is not refused, by the order of its cases. The factor is asked for where the block plays.
     #[tactic(auto, using(buffer::specs::Limits::valid), unfolding(crate::specs::Block::bad_samples, crate::specs::Block::plan, crate::specs::Block::written))]
     #[inline(always)]
-    fn render<F: FnOnce() -> f64>(
+    fn render<F: GivesFactor>(
         self,
         out: &mut [u32; 4096],
         samples: &[u32],
@@ -243,9 +240,8 @@ impl Player {
         rate: f32,
         factor: F,
     ) -> BlockReport
-        requires { (bad_samples self (length samples.now) ≡ false) × F.pre factor }
-        ensures { (played : _) → ((given : _) → F.post factor given → given ≡ played)
-            → let q = plan 128 self time rate played in
+        requires { bad_samples self (length samples.now) ≡ false }
+        ensures { let q = plan 128 self time rate (F.factor factor) in
             (result ≡ report_of q)
             × (out.new ≡ written 128 q.sample self.shape.frames samples.now out.old q.channels) }
     {
@@ -263,45 +259,40 @@ impl Player {
             return self.silent_block(out, time, false, false);
         }
         let channels = self.channels(samples);
-        let computed = computed_rate(rate, factor());
+        let computed = computed_rate(rate, factor.factor());
         if self.is_aligned(time, computed) {
             return self.aligned_block(out, channels, time, computed);
         }
         self.sub_sample_block(out, channels, time, rate, computed)
     }
 
-    // The block call with a factor that is asked for where the block plays (a matter of its time alone: the
-    // contract doesn't say it). What its checks look at is handed in: whether cents are refused, and the
-    // factor. `None` is for who knows that no block refuses it.
-    #[tactic(auto)]
+    /// The block call over whatever gives its factor, which is asked for it where the block plays (a matter of
+    /// its time alone: the contract doesn't say it). Where the factor is refused, so is the block, with the same
+    /// refusal, unless 8 or 13 comes before it.
+    #[tactic(auto, unfolding(crate::specs::Block::rendered, crate::specs::Block::output))]
     #[inline(always)]
-    pub fn process_by<F: FnOnce() -> f64>(
+    pub fn process_by<F: GivesFactor>(
         self,
         out: &mut [u32],
         samples: &[u32],
         time: f64,
         rate: f32,
-        bad_cents: bool,
-        checked: Option<f64>,
-        factor: F,
+        factor: Result<F, Refusal>,
     ) -> Result<BlockReport, Refusal>
-        requires { F.pre factor }
-        ensures refused { (first : _) → checks 128 self (length out.old) (length samples.now) time bad_cents rate (unwrap_or checked one) ≡ Err first
-            → (result ≡ Err first) × (out.new ≡ out.old) }
-        ensures law { (played : _) → ((given : _) → F.post factor given → given ≡ played)
-            → let q = plan 128 self time rate played in
-            let passed = checks 128 self (length out.old) (length samples.now) time bad_cents rate (unwrap_or checked one) in
-            (result ≡ after_checks passed (report_of q))
-            × (out.new ≡ stored (answer_of passed) (written 128 q.sample self.shape.frames samples.now out.old q.channels) out.old) }
+        ensures accepted { (it : _) → factor ≡ Ok it
+            → (result ≡ rendered 128 self (length out.old) (length samples.now) time rate (F.factor it))
+            × (out.new ≡ output 128 self out.old samples.now time rate (F.factor it)) }
+        ensures refused { (refusal : _) → factor ≡ Err refusal
+            → (result ≡ Err (without_factor 128 self (length out.old) time refusal)) × (out.new ≡ out.old) }
     {
         let out = out.as_mut_array().ok_or(Refusal::Length)?;
-        self.check_block(out.len(), samples.len(), time, bad_cents, rate, checked)?;
+        let factor = self.check_block(out.len(), samples.len(), time, rate, factor)?;
         Ok(self.render(out, samples, time, rate, factor))
     }
 
     // Renders a block into the lent output. The output, the samples, the time, the rate and the factor go
     // one by one, here and below, as document 01 names them.
-    #[tactic(auto, unfolding(crate::specs::Block::checked, crate::specs::Block::rendered, crate::specs::Block::output))]
+    #[tactic(auto, unfolding(crate::specs::Block::checked, crate::specs::Block::rendered, crate::specs::Block::output, crate::specs::Block::bad_rate, crate::specs::Block::without_factor))]
     #[inline(always)]
     pub fn process(
         self,
@@ -314,6 +305,6 @@ impl Player {
         ensures { (result ≡ rendered 128 self (length out.old) (length samples.now) time rate factor)
             × (out.new ≡ output 128 self out.old samples.now time rate factor) }
     {
-        self.process_by(out, samples, time, rate, false, Some(factor), || factor)
+        self.process_by(out, samples, time, rate, Factor::new(factor))
     }
 }

@@ -5,11 +5,13 @@
 mod alignment;
 mod beginning;
 mod block;
+mod factor;
 mod messages;
 mod output;
 mod refusal;
 
 use buffer::Shape;
+pub use factor::{Factor, GivesFactor};
 use seconds::{BufferSeconds, ContextSeconds};
 use tolerances::Tolerances;
 

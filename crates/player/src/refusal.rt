@@ -1,34 +1,14 @@
 // The rows of the table for a block.
-ghost use Rattle.std.specs.Prelude.{◌≡◌};
-ghost use Rattle.std.specs.Option.{unwrap_or};
-ghost use Rattle.seconds.specs.Seconds.{one};
-ghost use Rattle.player.specs.Block.{bad_block_time, bad_rate, bad_samples, checks};
+ghost use Rattle.std.specs.Prelude.{◌≡◌, false, IfOk, Ok, Err};
+ghost use Rattle.buffer.specs.Answers.{passed};
+ghost use Rattle.player.specs.Block.{bad_block_time, bad_samples, checked, without_factor};
 
-use super::Player;
+use super::{GivesFactor, Player};
 use buffer::Refusal;
 use rounding::is_finite;
 
 // 2^30 seconds.
 const LATEST: f64 = 1073741824.0;
-
-// 2^-64 and 2^64.
-const SLOWEST: f64 = 5.421010862427522170037264004349708557128906250e-20;
-
-const FASTEST: f64 = 18446744073709551616.0;
-
-// A rate or a factor that no block may have. Where no factor is given, none is refused, as 1 is not.
-#[tactic(auto, using(crate::proofs::Limits::slowest_bits, crate::proofs::Limits::fastest_bits, crate::proofs::Limits::one_passes), unfolding(crate::specs::Block::bad_rate))]
-fn is_bad_rate(rate: f32, factor: Option<f64>) -> bool
-    ensures { result ≡ bad_rate rate (unwrap_or factor one) }
-{
-    if !is_finite(f64::from(rate)) {
-        return true;
-    }
-    match factor {
-        Some(factor) => !(SLOWEST <= factor && factor <= FASTEST),
-        None => false,
-    }
-}
 
 impl Player {
     // A time that the next block may not have.
@@ -54,19 +34,21 @@ impl Player {
         }
     }
 
-    // The checks of a block. Cents are checked by who takes them: `bad_cents` is what was found, no switch,
-    // since its row stands between those of the time and of the speed. No factor: one that no block refuses.
+    // The checks of a block, and its factor. A refusal of the factor that is handed in stands between those of
+    // the time and of the rate.
+    #[tactic(auto, unfolding(crate::specs::Block::checked, crate::specs::Block::bad_rate, crate::specs::Block::without_factor))]
     #[inline(always)]
-    pub(crate) fn check_block(
+    pub(crate) fn check_block<F: GivesFactor>(
         self,
         out_len: usize,
         samples_len: usize,
         time: f64,
-        bad_cents: bool,
         rate: f32,
-        factor: Option<f64>,
-    ) -> Result<(), Refusal>
-        ensures { result ≡ checks 128 self out_len samples_len time bad_cents rate (unwrap_or factor one) }
+        factor: Result<F, Refusal>,
+    ) -> Result<F, Refusal>
+        ensures accepted { (it : _) → factor ≡ Ok it → checked 128 self out_len samples_len time rate (F.factor it) ≡ passed result }
+        ensures refused { (refusal : _) → factor ≡ Err refusal → result ≡ Err (without_factor 128 self out_len time refusal) }
+        ensures given { IfOk result (λ it. (factor ≡ Ok it) × (bad_samples self samples_len ≡ false)) }
     {
         if out_len != 4096 {
             return Err(Refusal::Length);
@@ -74,15 +56,13 @@ impl Player {
         if self.is_bad_block_time(time) {
             return Err(Refusal::Time);
         }
-        if bad_cents {
-            return Err(Refusal::Cents);
-        }
-        if is_bad_rate(rate, factor) {
+        let factor = factor?;
+        if !is_finite(f64::from(rate)) {
             return Err(Refusal::Speed);
         }
         if self.is_bad_samples(samples_len) {
             return Err(Refusal::Shape);
         }
-        Ok(())
+        Ok(factor)
     }
 }
