@@ -1,16 +1,16 @@
--- The aligned block (document 01, 'Aligned block'; the Rust's fast track): which frame each sample plays, and the position afterwards.
--- n is the block length. Definitions only.
+-- docs/REFERENCE.md, 'Aligned block': which frame each sample plays, and the position afterwards.
+-- n is the block length; positions and lengths are seconds of the clip. Definitions only.
 use Rattle.std.specs.Prelude.{Bool, ◌&&◌, cond, List, ℕ, zero, suc, ◌-◌, leb, get_or, Float, Option, None, Some}
 use Rattle.std.specs.Float.{binary64}
 use Rattle.std.specs.Float.Ieee.{add, mul, div, rem, lt, to_unsigned}
 use Rattle.rounding.specs.Rounding.{whole, round_away}
 use Rattle.seconds.specs.Seconds.{block_seconds}
 
--- the first frame: position × rate, rounded
+-- the first frame: position × rate, rounded half away from zero
 unfoldable pub first_frame : Float → Float → ℕ
 first_frame position rate = to_unsigned 64 (round_away binary64 (mul binary64 position rate))
 
--- whether the clip ends within the block
+-- whether the clip ends within the block: the position and the block's length lie past its duration
 unfoldable pub ends_within : ℕ → Float → Float → Float → Bool
 ends_within n position rate seconds = lt seconds (add binary64 position (block_seconds n rate))
 
@@ -32,7 +32,7 @@ unfoldable pub last_wrap : Bool → ℕ → ℕ → ℕ → Option ℕ
 last_wrap turns frames first zero = None
 last_wrap turns frames first (suc i) = cond (turns && leb frames (next_frame turns frames first i)) (Some i) (last_wrap turns frames first i)
 
--- after a wrap, ((n − last wrap index) / rate) % duration; otherwise the position grows by D
+-- after a last wrap at sample i it is the remainder of (n − i) / rate by the duration; otherwise the position grows by the block's length
 unfoldable pub aligned_position : ℕ → Float → Float → Float → Option ℕ → Float
 aligned_position n position rate seconds None = add binary64 position (block_seconds n rate)
 aligned_position n position rate seconds (Some i) = rem binary64 (div binary64 (whole (n - i)) rate) seconds

@@ -1,2 +1,2 @@
--- The aligned block: its frames, and the position after it.
+-- What the contracts of `aligned` cite: an aligned block's frames, and the position after it.
 pub mod Aligned

@@ -1,5 +1,5 @@
-// The aligned block of one channel: which frame each sample plays, its part of the output, and the
-// position after the block.
+//! The aligned block of one channel: which frame each sample plays, its part of the output, and the
+//! position after the block. Every function here answers every input; none refuses.
 #![tactic(auto)]
 
 ghost use Rattle.std.specs.Prelude.{◌≡◌, ◌+◌, ◌≤◌, ◌<◌, true, false, length, get_or};
@@ -9,7 +9,8 @@ ghost use Rattle.aligned.specs.Aligned.{first_frame, ends_within, aligned_sample
 use rounding::{rem, round_away, truncate, whole};
 use seconds::block_seconds;
 
-// The frame at a position, rounded.
+/// The frame at a position: `position` seconds of the clip times `rate`, rounded half away from zero. It is 0 below
+/// frame 0 and at a NaN, and the largest number at 2^64 frames or more.
 #[tactic(auto, unfolding(crate::specs::Aligned::first_frame))]
 pub fn first_frame(position: f64, rate: f32) -> usize
     ensures { result ≡ first_frame position rate }
@@ -17,7 +18,7 @@ pub fn first_frame(position: f64, rate: f32) -> usize
     truncate(round_away(position * f64::from(rate))) as usize
 }
 
-// Whether the clip ends within the block.
+/// Whether a clip of `duration` seconds ends within the block that begins at `position` seconds of it.
 #[tactic(auto, unfolding(crate::specs::Aligned::ends_within))]
 pub fn ends_within(position: f64, rate: f32, duration: f64) -> bool
     ensures { result ≡ ends_within 128 position rate duration }
@@ -26,8 +27,7 @@ pub fn ends_within(position: f64, rate: f32, duration: f64) -> bool
 }
 
 // The last sample at which a block that turns over starts the clip again. `next` is the frame that comes next,
-// and no index: it starts over where the sample's goes on. A call, since it is rare: within each call that plays
-// a block it made aligned blocks of one channel 2 % longer.
+// and no index: it starts over where the sample's goes on. A call, since it is rare.
 #[tactic(auto, using(crate::proofs::Turning::next_more, crate::proofs::Turning::wrap_more), unfolding(crate::specs::Aligned::next_frame, crate::specs::Aligned::last_wrap, crate::specs::Aligned::played))]
 #[inline(never)]
 fn last_wrap_of_loop(frames: usize, first: usize) -> Option<usize>
@@ -45,8 +45,8 @@ fn last_wrap_of_loop(frames: usize, first: usize) -> Option<usize>
     wrap
 }
 
-// The last sample at which the clip starts again, if any. `turns` is a fact of the block, and the definition
-// takes it; `turns.then(..)` would want a `flatten`.
+/// The last sample of the block at which the clip of `frames` frames starts again, if any, where sample 0 comes at
+/// frame `first`. `turns` says whether the block is one that starts the clip again.
 #[tactic(auto, using(crate::proofs::Turning::wrap_never))]
 pub fn last_wrap(turns: bool, frames: usize, first: usize) -> Option<usize>
     ensures { result ≡ last_wrap turns frames first 128 }
@@ -58,7 +58,8 @@ pub fn last_wrap(turns: bool, frames: usize, first: usize) -> Option<usize>
     }
 }
 
-// The position after the block.
+/// The position after the block, in seconds of the clip: `position` and the block's length or, after a last wrap at
+/// sample `wrap`, the time from there to the block's end, less whole lengths of the clip (`duration` seconds).
 #[tactic(auto, unfolding(crate::specs::Aligned::aligned_position))]
 #[inline(always)]
 pub fn aligned_position(position: f64, rate: f32, duration: f64, wrap: Option<usize>) -> f64
@@ -92,8 +93,7 @@ fn write_turning(part: &mut [u32], channel: &[u32], first: usize)
     }
 }
 
-// The part's frames all lie within the clip. A loop, since `copy_from_slice` is a call: with it a block
-// of one channel took 123 ns in place of 105.
+// The part's frames all lie within the clip. A loop, since `copy_from_slice` is a call.
 #[tactic(auto, using(lists::specs::Table::filled_none, lists::specs::Table::filled_more, lists::specs::Table::filled_end))]
 fn write_within(part: &mut [u32], channel: &[u32], first: usize)
     requires { first + length part.old ≤ length channel.now }
@@ -128,8 +128,8 @@ fn write_straight(part: &mut [u32], channel: &[u32], first: usize)
     }
 }
 
-// A channel's part of the block. `turns` is the block's own fact and picks a loop at this one place; two
-// public calls or a closure would be no plainer.
+/// Writes a channel's part of the block: from frame `first` of the channel on, and past its last frame zeros or,
+/// where the block `turns`, the channel from frame 0 again. Samples and frames are f32 bit patterns.
 pub fn write_channel(part: &mut [u32], channel: &[u32], turns: bool, first: usize)
     ensures { part.new
         ≡ table (length part.old) (aligned_sample turns (length channel.now) first channel.now) }

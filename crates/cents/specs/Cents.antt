@@ -1,4 +1,4 @@
--- The block call in cents (document 02, 2.1: 'a block call that takes cents in place of the factor'). Definitions only.
+-- docs/REFERENCE.md, 'Detune in cents': the block call that takes whole cents in place of the factor. Definitions only.
 -- It is the block call with the factor of the cents, and its checks are the block's with 16 in its place (`checks`).
 use Rattle.std.specs.Prelude.{List, ℕ, ℤ, length, Float, Result}
 use Rattle.buffer.specs.Answers.{answer_of, stored, after_checks}
@@ -8,13 +8,16 @@ use Rattle.buffer.specs.declared.refusals.Refusal.{Refusal}
 use Rattle.player.specs.Block.{checks, plan, report_of, written}
 use Rattle.player.specs.declared.Player.{Player}
 
+-- its checks
 unfoldable pub checked_cents : ℕ → Player → ℕ → ℕ → Float → Float → ℤ → Result Unit Refusal
 checked_cents n p outLength samplesLength time rate cents = checks n p outLength samplesLength time (bad_cents cents) rate (factor_of cents)
 
+-- its answer
 unfoldable pub rendered_cents : ℕ → Player → ℕ → ℕ → Float → Float → ℤ → Result BlockReport Refusal
 rendered_cents n p outLength samplesLength time rate cents =
     after_checks (checked_cents n p outLength samplesLength time rate cents) (report_of (plan n p time rate (factor_of cents)))
 
+-- what the output then holds
 unfoldable pub output_cents : ℕ → Player → List ℕ → List ℕ → Float → Float → ℤ → List ℕ
 output_cents n p out samples time rate cents =
     let q = plan n p time rate (factor_of cents) in

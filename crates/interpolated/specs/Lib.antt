@@ -1,2 +1,2 @@
--- A sub-sample block's samples.
+-- What the contracts of `interpolated` cite: the bits of a sub-sample block's samples.
 pub mod Interpolated

@@ -1,11 +1,12 @@
-// A sub-sample block's samples: their bits from a channel's frames, by what each sample plays.
+//! A sub-sample block's samples: their bits from a channel's frames, by what each sample plays. Nothing here
+//! refuses.
 #![tactic(auto)]
 
 mod samples;
 
 pub use samples::write_channel;
 
-// The samples between which a sample lies.
+/// The frame that a sample plays and the one after it, as f64.
 #[derive(Clone, Copy)]
 pub struct Neighbours {
     pub prev_sample: f64,

@@ -21,8 +21,7 @@ struct Reader<'a> {
 }
 
 // The first frame at or after the position x, in frames, and `last` at most. `ceil` would give 0 at a
-// fraction below zero and at a NaN, where this is 1. With `saturating_add` and `min` in place of the tests
-// a sub-sample block took 3 to 20 % longer, and 3 to 5 % with the code 16 bytes further on.
+// fraction below zero and at a NaN, where this is 1.
 fn frame_after(x: f64, last: usize) -> usize
     ensures { result ≡ min (cond (eq (floor binary64 x) x) (to_unsigned 64 x) (to_unsigned 64 x + 1)) last }
 {
@@ -69,8 +68,7 @@ impl<'a> Reader<'a> {
         }
     }
 
-    // The sample after a frame. A call, since it is rare: within the loop over a channel's samples it made
-    // blocks of 8 and 32 channels 2 to 3 % longer.
+    // The sample after a frame. A call, since it is rare.
     #[tactic(auto, unfolding(crate::specs::Interpolated::following))]
     #[inline(never)]
     fn following(&self, frame: usize, k: f64) -> f64
@@ -133,7 +131,8 @@ impl<'a> Reader<'a> {
     }
 }
 
-// A channel's part of the block: its first 128 samples.
+/// Writes a channel's part of the block: the first 128 samples of `part`, from the channel's frames and what each
+/// sample plays. Samples and frames are f32 bit patterns.
 #[tactic(auto, using(lists::specs::Table::filled_none, lists::specs::Table::filled_more, crate::proofs::Front::filled_front))]
 #[inline(never)]
 pub fn write_channel(part: &mut [u32], channel: &[u32], s: Settings, infos: &Infos)

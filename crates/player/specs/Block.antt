@@ -1,4 +1,5 @@
--- The block call (document 01, 'Output block', 'Aligned block', 'Sub-sample block', and the table's rows for a block). Definitions only.
+-- docs/REFERENCE.md, 'Order of a block's cases', 'Aligned block', 'Sub-sample block' and 'When a player ends': the block call.
+-- docs/REFERENCE.md, 'Output block' and 'Refusals': its output, and what it refuses. n is the block length. Definitions only.
 -- What a block does to the player doesn't depend on the frames: `plan` gives it, with how a channel's frames become its samples.
 use Rattle.std.specs.Prelude.{Bool, true, false, not, ◌&&◌, ◌||◌, cond, List, ℕ, zero, suc, ◌*◌, eqb, pos, length, Float, Result, Ok, Err}
 use Rattle.std.specs.Float.{fin, binary64}
@@ -75,12 +76,14 @@ has_ended n p time computed position elapsed =
     && (lt float_zero computed && le (clip_seconds p) position || lt computed float_zero && lt position float_zero)
 
 -- ---- the aligned block
+-- it starts the clip again where it is looped and the clip ends within it
 unfoldable pub turns_over : ℕ → Player → Bool
 turns_over n p = p.loop_state.is_looping && ends_within n p.render_state.buffer_time.0 p.sample_rate (clip_seconds p)
 
 abbrev pub first_of : Player → ℕ
 first_of p = first_frame p.render_state.buffer_time.0 p.sample_rate
 
+-- Position and elapsed time grow by the block's length, or the position is what is left after the last wrap.
 unfoldable pub aligned_plan : ℕ → Player → Float → Float → Plan
 aligned_plan n p time computed =
     let r = p.render_state in
@@ -102,6 +105,7 @@ aligned_plan n p time computed =
 unfoldable pub own_loop : Player → Bool
 own_loop p = le float_zero p.loop_state.start.0 && lt float_zero p.loop_state.end.0 && lt p.loop_state.start.0 p.loop_state.end.0
 
+-- what stays the same over the block's samples; unlooped, both loop points are 0
 unfoldable pub settings : Player → Float → Float → Float → Settings
 settings p time rate computed = record {
   block_time = context time;
@@ -127,6 +131,7 @@ first_head p time =
     head_of (start_at p time) p.offset.0 r.buffer_time.0 r.buffer_time_elapsed.0 r.started
     (p.loop_state.is_looping && r.entered_loop)
 
+-- the player takes over where the playhead stands after the last sample
 unfoldable pub sub_sample_plan : ℕ → Player → Float → Float → Float → Plan
 sub_sample_plan n p time rate computed =
     let s = settings p time rate computed in
@@ -142,6 +147,8 @@ sub_sample_plan n p time rate computed =
     }
 
 -- ---- the order of the block's cases
+-- Silent: it has ended; it has a start but no buffer, which ends it; it starts at or past the block's end, which ends it if the stop is reached;
+-- it has no buffer. Else it plays, aligned or sub-sample.
 unfoldable pub plan : ℕ → Player → Float → Float → Float → Plan
 plan n p time rate factor =
     let end = block_end n time p.sample_rate in
@@ -172,7 +179,7 @@ bad_rate rate factor = not (finite rate) || not (is_factor factor)
 unfoldable pub bad_samples : Player → ℕ → Bool
 bad_samples p length = cond p.has_buffer (not (valid_shape p.shape.channels p.shape.frames length)) (not (eqb length 0))
 
--- The checks of a block in their order. Those of the cents stand after 13 and before 14 (document 02, 2.1); the block call has none to check.
+-- The checks of a block in their order. That of the cents stands after 13 and before 14; the block call has no cents to check.
 abbrev pub checks : ℕ → Player → ℕ → ℕ → Float → Bool → Float → Float → Result Unit Refusal
 checks n p outLength samplesLength time bad_cents rate factor =
     cond (not (eqb outLength (32 * n))) (Err refused.Length)
@@ -182,6 +189,7 @@ checks n p outLength samplesLength time bad_cents rate factor =
     (cond (bad_samples p samplesLength) (Err refused.Shape)
     (Ok tt)))))
 
+-- the checks of the block call
 unfoldable pub checked : ℕ → Player → ℕ → ℕ → Float → Float → Float → Result Unit Refusal
 checked n p outLength samplesLength time rate factor = checks n p outLength samplesLength time false rate factor
 
@@ -193,6 +201,7 @@ without_factor n p outLength time refusal = cond (not (eqb outLength (32 * n))) 
 abbrev pub report_of : Plan → BlockReport
 report_of q = report_from q.player q.keep_alive q.channels
 
+-- the refusal, or what the block answers
 unfoldable pub rendered : ℕ → Player → ℕ → ℕ → Float → Float → Float → Result BlockReport Refusal
 rendered n p outLength samplesLength time rate factor =
     after_checks (checked n p outLength samplesLength time rate factor) (report_of (plan n p time rate factor))
@@ -202,6 +211,7 @@ unfoldable pub written : ℕ → (List ℕ → ℕ → ℕ) → ℕ → List ℕ
 written n sample frames samples out zero = out
 written n sample frames samples out (suc c) = put (n * c) n (table n (sample (channel samples frames c))) (written n sample frames samples out c)
 
+-- the lent output after the call: as it was where the call is refused
 unfoldable pub output : ℕ → Player → List ℕ → List ℕ → Float → Float → Float → List ℕ
 output n p out samples time rate factor =
     let q = plan n p time rate factor in

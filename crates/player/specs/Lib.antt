@@ -1,4 +1,4 @@
--- What the player is and what each of its calls does (document 01).
+-- What the contracts of `player` cite: what the player is, and what each of its calls does.
 pub mod Record
 pub mod Messages
 pub mod Reports

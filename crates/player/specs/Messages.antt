@@ -1,4 +1,4 @@
--- The control messages and the buffer call (document 01, 'Messages', and the table's rows 'message values' to 'buffer'). Definitions only.
+-- docs/REFERENCE.md, 'Player and messages' and 'Refusals': the control messages and the buffer call. Definitions only.
 -- The checks stand in the order of the refusals.
 use Rattle.std.specs.Prelude.{Bool, true, not, ◌||◌, cond, ℕ, eqb, Float, Result, Ok, Err}
 use Rattle.std.specs.Float.Ieee.{lt, le}
@@ -14,7 +14,7 @@ use Rattle.player.specs.declared.ControlMessage.{ControlMessage}
 use Rattle.player.specs.declared.ControlMessage.TheVariants.{Start, Stop, Loop, LoopStart, LoopEnd}
 use Rattle.buffer.specs.declared.refusals.Refusal.{Refusal}
 
--- a player made for an output rate with these options: row 2, and what else is checked when a player is made comes after it
+-- a player made for an output rate with these options: 2 is checked first
 unfoldable pub made_with : Float → PlayerOptions → Result Player Refusal
 made_with rate options = cond (valid_rate rate) (Ok (fresh_with rate options)) (Err refused.Rate)
 
@@ -32,9 +32,11 @@ clamped_start at duration = cond (lt at float_zero) float_zero (cond (lt duratio
 unfoldable pub clamped_end : Float → Float → Float
 clamped_end at duration = cond (le at float_zero || lt duration at) duration at
 
+-- the player with another loop
 abbrev pub looped : Player → LoopState → Player
 looped p loop = told p p.has_start p.start_time p.stop_time p.offset p.duration loop
 
+-- after each message and after the buffer call, if a buffer stands, the loop points are brought into the clip
 unfoldable pub clamped : Player → Player
 clamped p =
     let seconds = duration p.shape.frames p.shape.rate in
@@ -47,21 +49,25 @@ clamped p =
 unfoldable pub bad_time : Float → Bool
 bad_time x = not (finite x) || lt x float_zero
 
+-- a start: 9 of its three values, 10 a second one
 unfoldable pub on_start : Player → Float → Float → Float → Result Player Refusal
 on_start p when offset duration =
     cond (bad_time when || bad_time offset || bad_time duration) (Err refused.Value)
     (cond p.has_start (Err refused.Second)
     (Ok (clamped (told p true (context when) p.stop_time (in_clip offset) (in_clip duration) p.loop_state))))
 
+-- a stop: 9, and 11 before a start
 unfoldable pub on_stop : Player → Float → Result Player Refusal
 on_stop p when =
     cond (bad_time when) (Err refused.Value)
     (cond (not p.has_start) (Err refused.Early)
     (Ok (clamped (told p p.has_start p.start_time (context when) p.offset p.duration p.loop_state))))
 
+-- the loop on or off: never refused
 unfoldable pub on_loop : Player → Bool → Result Player Refusal
 on_loop p on = Ok (clamped (looped p (loop_of on p.loop_state.start.0 p.loop_state.end.0)))
 
+-- a loop point may be negative, but not infinite or a NaN: 9
 unfoldable pub on_loop_start : Player → Float → Result Player Refusal
 on_loop_start p at =
     cond (not (finite at)) (Err refused.Value)
@@ -72,6 +78,7 @@ on_loop_end p at =
     cond (not (finite at)) (Err refused.Value)
     (Ok (clamped (looped p (loop_of p.loop_state.is_looping p.loop_state.start.0 at))))
 
+-- each message by its case
 unfoldable pub handled : Player → ControlMessage → Result Player Refusal
 handled p (Start when offset duration) = on_start p when offset duration
 handled p (Stop when) = on_stop p when
@@ -79,7 +86,7 @@ handled p (Loop on) = on_loop p on
 handled p (LoopStart at) = on_loop_start p at
 handled p (LoopEnd at) = on_loop_end p at
 
--- ---- the buffer call: `length` is that of the lent samples
+-- ---- the buffer call: 1, 2, 10 and 12 in this order; `length` is that of the lent samples
 unfoldable pub buffered : Player → ℕ → ℕ → Float → ℕ → Result Player Refusal
 buffered p channels frames rate length =
     cond (not (valid_shape channels frames length)) (Err refused.Shape)

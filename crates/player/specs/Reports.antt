@@ -1,4 +1,4 @@
--- What a block answers, by the player that it leaves. Definitions only.
+-- docs/REFERENCE.md, 'Output block': what a block answers, by the player that it leaves. Definitions only.
 use Rattle.std.specs.Prelude.{Bool, ℕ}
 use Rattle.player.specs.declared.Player.{Player}
 use Rattle.player.specs.declared.BlockReport.{BlockReport}

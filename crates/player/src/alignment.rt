@@ -1,4 +1,4 @@
-// Which kind of block the player renders, and when it has ended.
+//! Which kind of block the player renders, and when it has ended.
 ghost use Rattle.std.specs.Prelude.{◌≡◌, ◌&&◌, ◌||◌};
 ghost use Rattle.std.specs.Float.{binary64};
 ghost use Rattle.std.specs.Float.Ieee.{add, lt, le, eq, ne};

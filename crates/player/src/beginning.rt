@@ -1,4 +1,4 @@
-// What a sub-sample block starts from.
+//! What a sub-sample block starts from.
 ghost use Rattle.std.specs.Prelude.{◌≡◌, ◌&&◌, cond};
 ghost use Rattle.seconds.specs.Seconds.{float_zero};
 ghost use Rattle.player.specs.Block.{clip_seconds, own_loop, settings, first_head};

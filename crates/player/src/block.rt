@@ -1,6 +1,6 @@
-// The block call. A silent block is short, and so is what stands around the channels of another: that code is
-// inlined in each call that plays a block. Channels are written by code that these calls share, so that they
-// take the same time in each of them (docs/DECISIONS.md, 'What the calls that play a block share').
+//! The block call. A silent block is short, and so is what stands around the channels of another: that code is
+//! inlined in each call that plays a block. Channels are written by code that these calls share, so that they
+//! take the same time in each of them (docs/DECISIONS.md, 'What the calls that play a block share').
 ghost use Rattle.std.specs.Prelude.{◌≡◌, true, false, not, ◌&&◌, ◌||◌, length, Ok, Err};
 ghost use Rattle.std.specs.Float.Ieee.{eq, ne};
 ghost use Rattle.buffer.specs.Limits.{Valid};
@@ -178,9 +178,8 @@ impl Player {
         }
     }
 
-    // An aligned block, of the channels of the player's buffer. It and the sub-sample block as one
-    // function took 2 to 3 % longer for sub-sample blocks of 8 and 32 channels.
-    // That the channels are the player's is asked at these two alone, so it is no type of its own.
+    // An aligned block, of the channels of the player's buffer. That they are the player's is asked here and of a
+    // sub-sample block alone, so it is no type of its own.
     #[tactic(auto, unfolding(crate::specs::Block::aligned_plan))]
     #[inline(always)]
     fn aligned_block(
@@ -290,8 +289,14 @@ impl Player {
         Ok(self.render(out, samples, time, rate, factor))
     }
 
-    // Renders a block into the lent output. The output, the samples, the time, the rate and the factor go
-    // one by one, here and below, as document 01 names them.
+    /// Renders a block into the lent output: `out` is 32 channels of 128 samples, and each answered channel is
+    /// written into its own part of it (`BlockReport::channels`). `samples` are those of the player's buffer, its
+    /// channels one after another, or none where it has no buffer; samples are f32 bit patterns. `time` is the
+    /// block's, in context seconds. The playback rate `rate` times `factor` is the speed, below 0 backwards.
+    ///
+    /// Refuses, in this order: 8, `out` is not 4,096 long; 13, the time is not finite, negative, over 2^30 or not
+    /// above the last accepted block's; 14, the rate is not finite, or the factor is a NaN or outside 2^-64 to 2^64;
+    /// 1, the samples are not as long as the player's buffer. A refused call leaves `out` as it was.
     #[tactic(auto, unfolding(crate::specs::Block::checked, crate::specs::Block::rendered, crate::specs::Block::output, crate::specs::Block::bad_rate, crate::specs::Block::without_factor))]
     #[inline(always)]
     pub fn process(

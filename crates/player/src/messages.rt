@@ -1,4 +1,4 @@
-// The control messages and the buffer call.
+//! The control messages and the buffer call.
 ghost use Rattle.std.specs.Prelude.{◌≡◌, length};
 ghost use Rattle.player.specs.Record.{fresh_with};
 ghost use Rattle.player.specs.Messages.{made, made_with, buffered, handled, bad_time, clamped_start, clamped_end, clamped};
@@ -60,7 +60,8 @@ impl Player {
         }
     }
 
-    // A fresh player for an output rate, with these options.
+    /// A fresh player for an output rate, in samples per second, with these options. Refuses 2: the rate is outside
+    /// 3,000 to 768,000, or a NaN.
     #[tactic(auto, unfolding(crate::specs::Messages::made_with))]
     pub fn with_options(sample_rate: f32, options: PlayerOptions) -> Result<Player, Refusal>
         ensures { result ≡ made_with sample_rate options }
@@ -69,7 +70,7 @@ impl Player {
         Ok(Player::fresh_with(sample_rate, options))
     }
 
-    // A fresh player for an output rate, with the defaults.
+    /// A fresh player for an output rate, with the defaults. Refuses 2, as `with_options`.
     #[tactic(auto, unfolding(crate::specs::Record::fresh, crate::specs::Messages::made, crate::specs::Messages::made_with))]
     pub fn new(sample_rate: f32) -> Result<Player, Refusal>
         ensures { result ≡ made sample_rate }
@@ -151,6 +152,8 @@ impl Player {
         Ok(self.clamp_loop_boundaries())
     }
 
+    /// Gives the player a control message; it counts from the next block on. Refuses 9: a value is not finite or, in
+    /// a start and a stop, negative; 10: a second start; 11: a stop before a start.
     #[tactic(auto, unfolding(crate::specs::Messages::handled))]
     pub fn handle_control_message(self, m: ControlMessage) -> Result<Player, Refusal>
         ensures { result ≡ handled self m }
@@ -164,8 +167,9 @@ impl Player {
         }
     }
 
-    // Gives the player its clip: `channels` channels of `frames` frames, at `rate`, in `samples`. One by
-    // one, as document 01 names them.
+    /// Gives the player its clip: `channels` channels of `frames` frames, one after another in `samples`, at `rate`
+    /// frames per second. The samples are lent again at each block. Refuses, in this order: 1, a bad shape; 2, a bad
+    /// rate; 10, a second buffer; 12, no frames.
     #[tactic(auto, unfolding(crate::specs::Messages::buffered))]
     pub fn set_buffer(
         mut self,

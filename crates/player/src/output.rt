@@ -1,4 +1,4 @@
-// The output block: each channel's frames are written into its own part.
+//! The output block: each channel's frames are written into its own part.
 ghost use Rattle.std.specs.Prelude.{◌≡◌, List, ℕ, length};
 ghost use Rattle.lists.specs.Table.{table};
 ghost use Rattle.player.specs.Block.{written};

@@ -1,4 +1,4 @@
-// The rows of the table for a block.
+//! The checks of a block.
 ghost use Rattle.std.specs.Prelude.{◌≡◌, false, IfOk, Ok, Err};
 ghost use Rattle.buffer.specs.Answers.{passed};
 ghost use Rattle.player.specs.Block.{bad_block_time, bad_samples, checked, without_factor};
@@ -46,8 +46,10 @@ impl Player {
         rate: f32,
         factor: Result<F, Refusal>,
     ) -> Result<F, Refusal>
-        ensures accepted { (it : _) → factor ≡ Ok it → checked 128 self out_len samples_len time rate (F.factor it) ≡ passed result }
-        ensures refused { (refusal : _) → factor ≡ Err refusal → result ≡ Err (without_factor 128 self out_len time refusal) }
+        ensures accepted { (it : _) → factor ≡ Ok it
+            → checked 128 self out_len samples_len time rate (F.factor it) ≡ passed result }
+        ensures refused { (refusal : _) → factor ≡ Err refusal
+            → result ≡ Err (without_factor 128 self out_len time refusal) }
         ensures given { IfOk result (λ it. (factor ≡ Ok it) × (bad_samples self samples_len ≡ false)) }
     {
         if out_len != 4096 {

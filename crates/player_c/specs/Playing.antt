@@ -1,4 +1,5 @@
--- A clip played from its start for a count of blocks, clip and output at 48,000 (document 01, 'Messages' and 'Output block'). Definitions only.
+-- docs/REFERENCE.md, 'Player and messages' and 'Output block': a clip played from its start for a count of blocks, clip and output at 48,000.
+-- Definitions only.
 use Rattle.std.specs.Prelude.{Bool, false, not, List, ℕ, zero, suc, length, Float}
 use Rattle.std.specs.Float.{binary64}
 use Rattle.std.specs.Float.Ieee.{mul, div}
@@ -19,10 +20,12 @@ samples_in_second = whole 48000
 
 -- ---- the beginning: after a refusal nothing more is asked
 -- `len` is the length of the lent samples
+-- the buffer call, if a player was made
 unfoldable pub given : Result Player Refusal → ℕ → ℕ → ℕ → Result Player Refusal
 given (Ok p) channels frames len = buffered p channels frames samples_in_second len
 given (Err refusal) channels frames len = Err refusal
 
+-- a message, if there is a player
 unfoldable pub sent : Result Player Refusal → ControlMessage → Result Player Refusal
 sent (Ok p) m = handled p m
 sent (Err refusal) m = Err refusal
@@ -53,6 +56,7 @@ next q samples rate n = record {
   out = output 128 q.player q.out samples (block_time n) rate one;
 }
 
+-- after that many blocks from block 0 on
 unfoldable pub played : Player → List ℕ → List ℕ → Float → ℕ → Played
 played p out samples rate zero = record { player = p; out = out }
 played p out samples rate (suc n) = next (played p out samples rate n) samples rate n

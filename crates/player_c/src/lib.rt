@@ -1,4 +1,4 @@
-// The player's blocks for C, to be measured beside the Rust's (tools/bench).
+//! The player's blocks for C, to be measured beside the original's (tools/bench).
 #![tactic(auto)]
 
 ghost use Rattle.std.specs.Prelude.{◌≡◌, length};
@@ -42,8 +42,10 @@ fn begun(samples: &[u32], channels: usize, frames: usize, looped: bool) -> Resul
         .handle_control_message(ControlMessage::Loop(looped))
 }
 
-// Plays `blocks` blocks of the clip from its start into `out`, and tells whether the player then
-// goes on.
+/// Plays `blocks` blocks of the clip from its start into `out`, clip and output at 48,000, and tells whether the
+/// player then goes on. `samples` are `channels` channels of `frames` frames, as f32 bit patterns; `rate` is the
+/// playback rate. A beginning that is refused answers false and leaves `out`; a block that is refused changes
+/// nothing.
 #[tactic(auto, using(crate::proofs::Turns::after_none, crate::proofs::Turns::next_player, crate::proofs::Turns::next_output, crate::proofs::Turns::refused_answer, crate::proofs::Turns::refused_output))]
 #[unsafe(no_mangle)]
 pub extern "C" fn player_blocks(

@@ -1,5 +1,5 @@
-// The preview of the coming block: what the block call would give on a copy of the player. It
-// answers no player, so that nothing of it can stand in for the one that was looked at.
+//! The preview of the coming block: what the block call would give on a copy of the player. It
+//! answers no player, so that nothing of it can stand in for the one that was looked at.
 #![tactic(auto)]
 
 ghost use Rattle.std.specs.Prelude.{◌≡◌, length};
@@ -12,13 +12,16 @@ use cents::process_cents;
 use player::{BlockReport, Player};
 use seconds::BufferSeconds;
 
-// Of the coming block, what it would answer, but for the player that it would leave. The block's own
-// answer is flat (document 01), so its four fields stand here once more.
+/// What the coming block would answer, but for the player that it would leave.
 #[derive(Clone, Copy)]
 pub struct Coming {
+    /// `BlockReport::keep_alive`.
     pub keep_alive: bool,
+    /// Whether the player would have ended after the block.
     pub ended: bool,
+    /// How many channels of the second output hold the block; those from here on are untouched.
     pub channels: usize,
+    /// Where the player would stand after the block.
     pub position: BufferSeconds,
 }
 
@@ -39,7 +42,7 @@ impl From<BlockReport> for Coming {
     }
 }
 
-// Renders the coming block into a second output. The parameters are the block call's, one by one.
+/// Renders the coming block into a second output. Its parameters and refusals are those of `Player::process`.
 pub fn preview(
     p: Player,
     out: &mut [u32],
@@ -55,8 +58,8 @@ pub fn preview(
         .map(Coming::from)
 }
 
-// Renders the coming block into a second output, detuned by whole cents. One call over either speed
-// would be no plainer: each is the block call of its kind.
+/// Renders the coming block into a second output, detuned by whole cents. Its parameters and refusals are those of
+/// `cents::process_cents`.
 pub fn preview_cents(
     p: Player,
     out: &mut [u32],

@@ -1,5 +1,5 @@
--- What the samples of a sub-sample block play, in three arrays: a frame, a fraction and a present flag for each
--- (document 01, 'From shared handles to lent frames'). Definitions only.
+-- docs/REFERENCE.md, 'Sub-sample block': what its samples play, in three arrays: a frame, a fraction and a present flag for each.
+-- n is the block length. Definitions only.
 use Rattle.std.specs.Prelude.{false, cond, ℕ, get_or, Float, Option, None, Some, is_some}
 use Rattle.std.specs.Float.{nan}
 use Rattle.lists.specs.Table.{table}

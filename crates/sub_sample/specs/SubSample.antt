@@ -1,5 +1,5 @@
--- The sub-sample block (document 01, 'Sub-sample block'; the Rust's slow track), sample by sample in the Rust's order. Every near test receives the
--- tolerances that the player was made with (document 02, 2.7). Definitions only.
+-- docs/REFERENCE.md, 'Sub-sample block' and 'Near tests and tolerances': where the playhead stands for each sample, and what the sample plays.
+-- Every near test goes by the tolerances that the player was made with. Definitions only.
 use Rattle.std.specs.Prelude.{Bool, true, not, ◌&&◌, ◌||◌, cond, ℕ, zero, suc, ltb, Float, Option, None, Some}
 use Rattle.std.specs.Float.{binary64}
 use Rattle.std.specs.Float.Ieee.{add, sub, mul, lt, le, to_unsigned}
@@ -23,7 +23,7 @@ head_of start offset position elapsed started entered = record {
 abbrev pub info_of : ℕ → Float → PlaybackInfo
 info_of frame k = record { prev_frame_index = record { 0 = frame }; k = k }
 
--- sample i's instant
+-- sample i's instant: the block's time and i steps of dt, each step rounded
 abbrev pub instant_of : Settings → ℕ → Float
 instant_of s i = add binary64 s.block_time.0 (mul binary64 (whole i) s.dt)
 
@@ -39,7 +39,7 @@ is_idle s now h = lt now h.start_time.0 || le s.stop_time.0 now || le s.duration
 
 -- ---- the first sample at or after the start
 
--- `x.max(0.)` and `x.min(y)`
+-- 0 where x is not above it (−0 and a NaN too), and y where x is not below it
 abbrev pub at_least_zero : Float → Float
 at_least_zero x = cond (lt float_zero x) x float_zero
 
@@ -53,6 +53,7 @@ start_offset s x =
     let forward = cond (s.is_looping && le float_zero s.computed_playback_rate && lt s.loop_end.0 o) s.loop_end.0 o in
     cond (s.is_looping && lt s.computed_playback_rate float_zero && lt forward s.loop_start.0) s.loop_start.0 forward
 
+-- the first sample begins as far past the offset as the clip has run since the start; later ones go on
 unfoldable pub begun : Settings → Float → Playhead → Playhead
 begun s now h =
     let run = mul binary64 (sub binary64 now h.start_time.0) s.computed_playback_rate in
@@ -72,6 +73,7 @@ unfoldable pub enters : Settings → Float → Float → Bool
 enters s offset x =
     lt offset s.loop_end.0 && le s.loop_start.0 x || le s.loop_end.0 offset && lt x s.loop_end.0
 
+-- outside the loop, the position comes back into it by the Euclidean remainder
 unfoldable pub wrapped : Settings → Float → Float
 wrapped s x =
     cond (le s.loop_end.0 x || lt x s.loop_start.0)
@@ -79,6 +81,7 @@ wrapped s x =
     (rem_euclid binary64 (sub binary64 x s.loop_start.0) (sub binary64 s.loop_end.0 s.loop_start.0)))
     x
 
+-- looped, the position is brought into the loop once the loop was entered
 unfoldable pub turned : Settings → Playhead → Playhead
 turned s h =
     let x = snapped_to_loop s h.buffer_time.0 in
@@ -94,9 +97,11 @@ settled s h =
     h.buffer_time_elapsed.0 h.started h.entered_loop
 
 -- ---- the frame and the fraction at a position within the clip
+-- the position in frames: × the clip's rate by the output's, × the output's rate
 unfoldable pub playhead : Settings → Float → Float
 playhead s x = mul binary64 (mul binary64 x s.sampling_ratio) s.sample_rate
 
+-- the frame by floor, and what is left above it; outside the clip nothing
 unfoldable pub info_at : Settings → Float → Option PlaybackInfo
 info_at s x =
     let floored = floor binary64 (playhead s x) in
@@ -105,7 +110,7 @@ info_at s x =
     (Some (info_of frame (sub binary64 (playhead s x) floored)))
     None
 
--- ---- on to the next sample
+-- ---- on to the next sample: the position moves by dt at the computed rate, the elapsed time by its magnitude
 unfoldable pub advanced : Settings → Playhead → Playhead
 advanced s h =
     let step = mul binary64 s.dt s.computed_playback_rate in
@@ -118,12 +123,14 @@ advanced s h =
 unfoldable pub placed : Settings → Float → Playhead → Playhead
 placed s now h = settled s (turned s (begun s now h))
 
+-- the playhead after sample i: one that plays nothing moves nothing but what is near
 unfoldable pub stepped : Settings → ℕ → Playhead → Playhead
 stepped s i h =
     let now = instant_of s i in
     let k = snapped s now h in
     cond (is_idle s now k) k (advanced s (placed s now k))
 
+-- what sample i plays
 unfoldable pub info_of_sample : Settings → ℕ → Playhead → Option PlaybackInfo
 info_of_sample s i h =
     let now = instant_of s i in

@@ -20,7 +20,7 @@ fn frame_and_fraction(info: Option<PlaybackInfo>) -> (usize, f64)
     }
 }
 
-// What each sample of a block plays, from the playhead `h` on.
+/// What each of the 128 samples of a block plays, from the playhead `h` on, and the playhead after them.
 #[tactic(auto, using(lists::specs::Table::filled_none, lists::specs::Table::filled_more), unfolding(crate::specs::SubSample::head_at))]
 pub fn fill_infos(s: Settings, h: Playhead) -> Filled
     ensures { (result.infos ≡ infos_of 128 s h) × (result.head ≡ head_at s h 128) }
