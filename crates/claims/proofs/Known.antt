@@ -1,4 +1,4 @@
--- Document 01's known frames: four parts are what the crates below claim, the others are computed. Assumes nothing.
+-- The known frames: four parts are what the crates below claim, the others are computed. Assumes nothing.
 use mathlib.Core.Path.{refl}
 use lib.Ieee.{of_bits, of_int, round, sum, add, mul, div, rem, lt, le, eq, ne, neg, sub, to_unsigned}
 use Rattle.lists.specs.Table.{table}

@@ -1,4 +1,8 @@
--- The road to the long-run statement; blocks in cents and previews; conversions.
+-- What is computed: values by hand, and lists that meet the premises. Then the road to the statement about the long run; the loop switch; blocks in cents
+-- and previews; conversions; the tolerances.
+pub mod ByHand
+pub mod Instances
+pub mod SwitchInstances
 pub mod Order
 pub mod Units
 pub mod Position
@@ -21,8 +25,6 @@ pub mod Switched
 pub mod Longer
 pub mod Samples
 pub mod Unseen
-pub mod Instances
-pub mod SwitchInstances
 pub mod Known
 pub mod Conversions
 pub mod Multiples

@@ -1,4 +1,4 @@
--- Blocks in cents among the calls of demand 3: an accepted one is the block with its factor, a refused one leaves everything, and so does a preview. Assumes nothing.
+-- Blocks in cents among the other calls: an accepted one is the block with its factor, a refused one leaves everything, and so does a preview. Assumes nothing.
 use mathlib.Core.Path.{◌≡◌, refl, sym, ap, ◌∙◌}
 use mathlib.Core.Bool.{Bool, true, false, not, ◌&&◌, cond, false≢true}
 use mathlib.Core.List.{List, [], ◌∷◌}

@@ -137,7 +137,7 @@ pub none_below_one : (lt float_zero one ≡ true) × (lt one float_zero ≡ fals
 unfolding of_bits lt
 none_below_one = (refl, refl)
 
--- ---- Rust's `%`
+-- ---- the remainder
 other : {z : ℕ} → 0 < z → z ≡ 0 → ⊥
 other p q = omega arith
 

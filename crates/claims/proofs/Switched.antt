@@ -251,7 +251,7 @@ module _ (rate : Float) (options : PlayerOptions) (f : T (fits binary32 rate)) (
   pub switched_lem : Switched rate options es h.clip
   switched_lem = record { beside = beside_lem; follows = follows_lem; over = over_lem }
 
--- ---- a list of demand 3 without a stop
+-- ---- a list of the long run without a stop
 off_one : (n l : ℕ) (a : Received) (c : Call) (rest : List Step) → is_block_call c ≡ false → T (stays_off n l (begun (receive a c).looped) rest) → T (stays_off n l (begun a.looped) (step_in c ++ rest))
 unfolding stays_off stepped
 off_one n l a (buffer channels frames rate samples) rest k h = h

@@ -1,4 +1,4 @@
--- A player keeps its tolerances through every call; and at the defaults the definitions are the former ones. Assumes nothing.
+-- A player keeps its tolerances through every call. Assumes nothing.
 use mathlib.Core.Path.{◌≡◌, refl, ap, ◌∙◌}
 use mathlib.Core.Bool.{Bool, true, false, not, ◌&&◌, ◌||◌, cond}
 use mathlib.Core.List.{List, [], ◌∷◌}

@@ -26,7 +26,7 @@ stays p (in_cents out samples time rate cents) l = absurd (false≢true l)
 stays p (preview out samples time rate factor) l = refl
 stays p (preview_in_cents out samples time rate cents) l = refl
 
--- a preview is left out of the list of demand 3
+-- a preview is left out of the list of calls
 goes : (p : Player) (c : LongerCall) → is_preview c ≡ true → is_left_out p c ≡ true
 goes p (plain c) l = absurd (false≢true l)
 goes p (in_cents out samples time rate cents) l = absurd (false≢true l)

@@ -1,4 +1,4 @@
--- The tape without a switch during playback: it has the frames and the positions that demand 3 names. Assumes nothing.
+-- The tape without a switch during playback: it has the frames and the positions that the long run's statement names. Assumes nothing.
 use mathlib.Core.Path.{◌≡◌, refl, sym, ap, ap₂, ◌∙◌, subst}
 use mathlib.Core.Bool.{Bool, true, false, not, ◌&&◌, cond, true≢false, false≢true}
 use mathlib.Core.List.{List}

@@ -1,4 +1,4 @@
--- Demand 3's statement: from its premises to the player before the first block, and from there block by block. Assumes nothing.
+-- The long run's statement: from its premises to the player before the first block, and from there block by block. Assumes nothing.
 use mathlib.Core.Path.{◌≡◌, refl, sym, ap, ◌∙◌, subst}
 use mathlib.Core.Bool.{Bool, false, true≢false}
 use mathlib.Core.List.{List, [], ◌∷◌, ◌++◌}
@@ -130,7 +130,7 @@ module _ (rate : Float) (options : PlayerOptions) (f : T (fits binary32 rate)) (
     time : Time (time_of e.call)
     time = time_at g (Meets s.stop) (up_reach g) t met.state e back met.moment c
 
-    -- the tape's frames are those of demand 3
+    -- the tape's frames are those of the long run
     plays_by : (X : Float → Type 0) (up : Upward X) → Reached g X t (after_all (standing s x) front) (e ∷ back) → (X (end_of rate e) → ⊥) → lt s.stop (end_of rate e) ≡ false → Plays on h.clip k e
     plays_by X up r n p d i D I =
         frames_at g X up t r.state e back r.moment c n p d i D I

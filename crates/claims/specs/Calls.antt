@@ -1,4 +1,4 @@
--- Lists of calls on one fresh player, and what each accepted one gave (document 01, the paragraph on demand 3). Definitions only.
+-- Lists of calls on one fresh player, and what each accepted one gave (docs/REFERENCE.md, 'Player and messages' and 'The long run'). Definitions only.
 use Rattle.std.specs.Prelude.{Bool, true, false, ◌&&◌, cond, List, [], ◌∷◌, ◌++◌, ℕ, ◌+◌, ◌*◌, length, get_or, Float}
 use Rattle.std.specs.Float.{binary32, binary64}
 use Rattle.std.specs.Float.Ieee.{fits}
@@ -38,7 +38,7 @@ abbrev pub all_typed : List Call → Bool
 all_typed [] = true
 all_typed (c ∷ cs) = typed c && all_typed cs
 
--- ---- what a call does to the player: accepted means that no row of the table refuses it, and a refused call leaves the player
+-- ---- what a call does to the player: accepted means that no row of the table refuses it, and a refused call leaves the player as it was
 abbrev pub is_accepted : {A : Type 0} → Answer A → Bool
 is_accepted (answers.accepted value) = true
 is_accepted (answers.refusal number) = false

@@ -1,4 +1,5 @@
--- Document 02, 2.4: conversion by a real change keeps time, so that converted clips lie over the originals at the same instants. Definitions only.
+-- Conversion by a real change keeps time (docs/REFERENCE.md, 'Conversion'): converted clips lie over the originals at the same instants. Definitions
+-- only.
 use Rattle.std.specs.Prelude.{◌≡◌, ℕ, ◌+◌, ◌-◌, ◌*◌, ◌^◌, ◌<◌, true, false, T, from_bits, min, List, length, slice_index, Float, Ok}
 use Rattle.std.specs.Float.{binary32}
 use Rattle.std.specs.Float.Ieee.{fits, eq}
@@ -24,7 +25,7 @@ half_above = from_bits binary32 0x473b_8080
 abbrev pub half : Float
 half = from_bits binary32 0x3f00_0000
 
--- a conversion by a real change, from one f32 rate to another, that is accepted; it is handed the tolerances t (document 02, 2.7)
+-- a conversion by a real change, from one f32 rate to another, that is accepted; it is handed the tolerances t
 pub record Converts (t : Tolerances) (shape : Shape) (len : ℕ) (rate : Float) (made : Shape) : Type 0 where
   pub source_single : T (fits binary32 shape.rate)
   pub target_single : T (fits binary32 rate)

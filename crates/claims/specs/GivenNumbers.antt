@@ -4,7 +4,7 @@
 -- its near tests, and only those. What isn't written out again has no near test and calls nothing that has one. Definitions only.
 use Rattle.std.specs.Prelude.{Bool, true, false, not, ◌&&◌, ◌||◌, cond, List, ℕ, zero, suc, ◌+◌, ◌-◌, ◌==◌, eqb, ltb, nat_lt, get_or, length, Float, Option, None, Some, Result, Ok, Err}
 use Rattle.std.specs.Float.{binary64}
-use Rattle.std.specs.Float.Ieee.{of_bits, add, sub, mul, le, ne}
+use Rattle.std.specs.Float.Ieee.{of_bits, sub, mul, le, ne}
 use Rattle.rounding.specs.Rounding.{widen}
 use Rattle.rounding.specs.Near.{near, near_zero, float_eq}
 use Rattle.seconds.specs.Seconds.{never, float_zero, one, block_end}

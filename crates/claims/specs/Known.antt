@@ -1,4 +1,4 @@
--- Document 01, 'Known frames': all the starred ones, as one claim about the definitions. Definitions only.
+-- The known frames that are proved (docs/REFERENCE.md, 'Known frames'), as one claim about the definitions. Definitions only.
 use Rattle.std.specs.Prelude.{◌≡◌, Bool, true, false, List, ℕ, ◌+◌, pos, negsuc, Float}
 use Rattle.std.specs.Float.{fin}
 use Rattle.rounding.specs.Known.{KnownRounding}
@@ -14,7 +14,7 @@ use Rattle.player.specs.declared.Player.{Player}
 use Rattle.player.specs.declared.ControlMessage.TheVariants.{Start, Loop}
 use Rattle.claims.specs.Calls.{buffer, message, next, is_ended}
 
--- 'Duration 1: loop end 0, −1, 1.5 become 1; loop start −1, 2 become 0, 1.'
+-- ---- loop points in a clip of one second: an end at or below 0, or above 1, becomes 1; a start below 0 becomes 0, and one above 1 becomes 1
 abbrev minus_one : Float
 minus_one = fin true 1 (pos 0)
 
@@ -47,7 +47,7 @@ after looped l = (plan 128 (begun looped l) float_zero one one).player
 abbrev pub sample_of_block_one : Bool → ℕ → ℕ
 sample_of_block_one looped l = (plan 128 (after looped l) (block_end 128 float_zero rate) one one).sample (words l) 0
 
--- 'L = 3 looped: block 1 starts on frame 2. L = 128 looped: on frame 0. L = 128 unlooped: ended after one block.'
+-- looped, block 1 starts on frame 2 of a clip of 3 frames, and on frame 0 of one of 128; unlooped, a clip of 128 frames has ended after one block
 unfoldable pub KnownPlayback : Type 0
 KnownPlayback = (sample_of_block_one true 3 ≡ 2 + 1) × (sample_of_block_one true 128 ≡ 0 + 1) × (is_ended (after false 128) ≡ true)
 

@@ -1,8 +1,11 @@
--- Demand 3: one claim about one list of calls, refused ones included. Definitions only.
+-- The long run (docs/REFERENCE.md, 'The long run'): one claim about one list of calls, refused ones included. Definitions, and a few
+-- values of them by hand.
 use Rattle.std.specs.Prelude.{◌≡◌, Bool, true, false, ◌&&◌, ◌||◌, cond, List, [], ◌∷◌, ◌++◌, ℕ, zero, suc, ◌+◌, ◌-◌, ◌*◌, ◌/◌, ◌%◌, ◌^◌, ◌<◌, ◌≤◌, T, eqb, ltb, length, get_or, Float}
 use Rattle.std.specs.Float.{binary32}
 use Rattle.std.specs.Float.Ieee.{fits, lt, le, eq}
 use Rattle.std.specs.Float.Ieee.Exact.{HasValue}
+use Rattle.std.proofs.Math.Path.{refl}
+use Rattle.lists.specs.Table.{table}
 use Rattle.seconds.specs.Seconds.{float_zero, never, one, instant, block_end}
 use Rattle.buffer.specs.Limits.{valid_rate}
 use Rattle.player.specs.Record.{fresh_with}
@@ -14,12 +17,12 @@ use Rattle.claims.specs.Calls.{opening, playing, Clip, Started, clip_in, start_i
 
 -- ---- the premises, on what is accepted
 
--- `start at or before that block's time`
+-- the start lies at or before the first block's time
 abbrev pub starts_in_time : Float → List Event → Bool
 starts_in_time when [] = true
 starts_in_time when (e ∷ es) = le when (time_of e.call)
 
--- `only blocks, each lent that clip unaltered, rate and factor 1`
+-- from the first block on only blocks, each lent that clip unaltered, at rate and factor 1
 abbrev pub PlainBlock : List ℕ → Call → Type 0
 PlainBlock clip (buffer channels frames rate samples) = ⊥
 PlainBlock clip (message m) = ⊥
@@ -83,6 +86,33 @@ exact_frames n looped l (suc k) =
     let rest = n * suc k % l in
     cond looped (cond (eqb rest 0 && (ltb n l || eqb l n && eqb (suc k % 2) 1)) l rest) (n * suc k)
 
+-- ---- by hand: in blocks of 4 samples, a clip of three frames with the bits 1, 2 and 3
+abbrev three : Clip
+three = record { channels = 1; frames = 3; rate = one; samples = 1 ∷ 2 ∷ 3 ∷ [] }
+
+-- looped, block 1 begins with frame 1; unlooped, block 0 has the three frames and a zero
+looped_by_hand : table 4 (λ i. frame_bits 4 true three 1 i 0) ≡ 2 ∷ 3 ∷ 1 ∷ 2 ∷ []
+unfolding frame_bits table
+looped_by_hand = refl
+
+plain_by_hand : table 4 (λ i. frame_bits 4 false three 0 i 0) ≡ 1 ∷ 2 ∷ 3 ∷ 0 ∷ []
+unfolding frame_bits table
+plain_by_hand = refl
+
+-- looped, the exact positions of a clip as long as a block are its end and its start in turn; a longer clip's is its end where the remainder is 0, and a
+-- shorter one's is its start
+positions_by_hand : table 3 (exact_frames 4 true 4) ≡ 0 ∷ 4 ∷ 0 ∷ []
+unfolding exact_frames table
+positions_by_hand = refl
+
+longer_by_hand : table 4 (exact_frames 4 true 6) ≡ 0 ∷ 4 ∷ 2 ∷ 6 ∷ []
+unfolding exact_frames table
+longer_by_hand = refl
+
+shorter_by_hand : table 4 (exact_frames 4 true 2) ≡ 0 ∷ 0 ∷ 0 ∷ 0 ∷ []
+unfolding exact_frames table
+shorter_by_hand = refl
+
 -- The reported seconds times the rate, within 1/1024 frame of x frames: counted in whole multiples of 2 ^ -1223, the product of the
 -- smallest f64 (2 ^ -1074) and the smallest f32 (2 ^ -149). The bound is 2 ^ 1213 of these.
 pub record Reports (rate seconds : Float) (x : ℕ) : Type 0 where
@@ -131,7 +161,7 @@ pub record Holds (rate : Float) (options : PlayerOptions) (es : List Event) (cli
   pub each : (front : List Event) (e : Event) (back : List Event) → playing es ≡ front ++ (e ∷ back)
       → Block rate (switched_on (gathered switch_in (opening es))) clip (gathered stop_in (opening es)) front e back
 
--- the claim: for every output rate that a player can be made for, whatever tolerances it is made with (document 02, 2.7), and every list of calls on
+-- the claim: for every output rate that a player can be made for, whatever tolerances it is made with, and every list of calls on
 -- that fresh player; the one that is made for a rate alone has the defaults
 abbrev pub LongRun : Type 0
 LongRun =

@@ -1,5 +1,5 @@
--- Lists in which blocks in cents (document 02, 2.1) and previews (2.2) stand beside the calls of demand 3. Definitions only.
--- Demand 3's own type of calls stays as it is: a longer list is brought to one of its lists, call by call.
+-- Lists in which blocks in cents and previews stand beside the other calls (docs/REFERENCE.md, 'Detune in cents' and 'Preview'). Definitions only.
+-- A longer list is brought, call by call, to a list of the calls that the statement about the long run speaks of.
 use Rattle.std.specs.Prelude.{◌≡◌, Bool, true, false, not, ◌&&◌, cond, List, [], ◌∷◌, ℕ, ◌+◌, ◌*◌, ◌<◌, T, ℤ, pos, length, get_or, Float}
 use Rattle.std.specs.Float.{binary32, binary64}
 use Rattle.std.specs.Float.Ieee.{fits}
@@ -24,8 +24,8 @@ use Rattle.claims.specs.Calls.{Call, buffer, message, block, typed, channels_or,
 use Rattle.claims.specs.LongRun.{Premises, Holds}
 use Rattle.claims.specs.LoopSwitch.{SwitchPremises, Switched}
 
--- A call of demand 3; or a block in cents with all that is handed in: the output, the samples, time, rate and cents; or a preview of a block, its output
--- being the second one, with a factor or in cents.
+-- A call of the long run's statement; or a block in cents with all that is handed in: the output, the samples, time, rate and cents; or a preview of a
+-- block, its output being the second one, with a factor or in cents.
 pub data LongerCall : Type 0 where
   plain : Call → LongerCall
   in_cents : List ℕ → List ℕ → Float → Float → ℤ → LongerCall
@@ -83,7 +83,7 @@ unfoldable pub outcomes : Player → List Call → List Outcome
 outcomes p [] = []
 outcomes p (c ∷ cs) = outcome p c ∷ outcomes (outcome p c).player cs
 
--- ---- of blocks in cents, 'each accepted one replaced by the block call with its factor, and each refused one left out'; previews are left out too
+-- ---- an accepted block in cents becomes the block call with its factor, and a refused one is left out; previews are left out too
 abbrev pub is_left_out : Player → LongerCall → Bool
 is_left_out p (plain c) = false
 is_left_out p (in_cents out samples time rate cents) = not (is_block (rendered_cents 128 p (length out) (length samples) time rate cents))
@@ -120,18 +120,18 @@ pub record InCents : Type 0 where
   -- a block at 0 cents is the block with factor 1, so that it stays aligned
   pub at_zero : (p : Player) (out samples : List ℕ) (time rate : Float)
       → outcome_longer p (in_cents out samples time rate (pos 0)) ≡ outcome p (block out samples time rate one)
-  -- demand 3 holds of the list so replaced
+  -- the long run's statement holds of the list so replaced
   pub long_run : (rate : Float) (options : PlayerOptions) → T (fits binary32 rate) → T (valid_rate rate)
       → (calls : List LongerCall) → T (all_typed_longer calls)
       → (h : Premises rate (accepted (fresh_with rate options) (replaced (fresh_with rate options) calls)))
       → Holds rate options (accepted (fresh_with rate options) (replaced (fresh_with rate options) calls)) h.clip
-  -- and so does the statement about the loop switched during playback (document 02, 2.6)
+  -- and so does the statement about the loop switched during playback
   pub loop_switch : (rate : Float) (options : PlayerOptions) → T (fits binary32 rate) → T (valid_rate rate)
       → (calls : List LongerCall) → T (all_typed_longer calls)
       → (h : SwitchPremises rate (accepted (fresh_with rate options) (replaced (fresh_with rate options) calls)))
       → Switched rate options (accepted (fresh_with rate options) (replaced (fresh_with rate options) calls)) h.clip
 
--- ---- previews: 'the player goes on as if nobody had looked'
+-- ---- previews: a player that was looked at goes on as it would have
 abbrev pub is_preview : LongerCall → Bool
 is_preview (plain c) = false
 is_preview (in_cents out samples time rate cents) = false
@@ -207,5 +207,5 @@ pub record Previews : Type 0 where
   pub unwritten_in_cents : (p : Player) (second samples : List ℕ) (time rate : Float) (cents : ℤ) (refused : Refusal)
       → previewed_cents 128 p (length second) (length samples) time rate cents ≡ Err refused
       → (outcome_longer p (preview_in_cents second samples time rate cents)).output ≡ second
-  -- the list of demand 3 that a longer list is brought to (`replaced`, whose claims are those of `InCents`) is the one of the list without its previews
+  -- the list of calls that a longer list is brought to (`replaced`, whose claims are those of `InCents`) is the one of the list without its previews
   pub replaced_same : (p : Player) (calls : List LongerCall) → replaced p calls ≡ replaced p (unlooked calls)

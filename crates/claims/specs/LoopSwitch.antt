@@ -1,9 +1,11 @@
--- The loop switched during playback (document 02, 2.6): one claim about one list of calls, refused ones included. Definitions only.
--- Demand 3's statement, in LongRun.antt, stays beside it; what the tape is, without a switch during playback, stands at the end.
+-- The loop switched during playback (docs/REFERENCE.md, 'The loop switch'): one claim about one list of calls, refused ones included. What the tape is
+-- without a switch during playback, which is the rule of the long run (LongRun.antt), stands at the end. Definitions, and a tape
+-- by hand.
 use Rattle.std.specs.Prelude.{◌≡◌, Bool, true, false, not, ◌&&◌, cond, List, [], ◌∷◌, ◌++◌, ℕ, ◌*◌, ◌<◌, ltb, T, replicate, Float}
 use Rattle.std.specs.Float.{binary32}
 use Rattle.std.specs.Float.Ieee.{fits, eq}
-use Rattle.seconds.specs.Seconds.{float_zero, never}
+use Rattle.std.proofs.Math.Path.{refl}
+use Rattle.seconds.specs.Seconds.{float_zero, never, one}
 use Rattle.buffer.specs.Limits.{valid_rate}
 use Rattle.buffer.specs.Channels.{channel}
 use Rattle.player.specs.Record.{fresh_with}
@@ -11,7 +13,7 @@ use Rattle.player.specs.declared.Player.{Player}
 use Rattle.player.specs.declared.PlayerOptions.{PlayerOptions}
 use Rattle.player.specs.declared.ControlMessage.TheVariants.{Start, Stop, Loop, LoopStart, LoopEnd}
 use Rattle.tape.specs.Tape as tape
-use Rattle.tape.specs.Tape.{Tape, Step, loop_is, a_block, stepped_all, frame_at, bits_of, stays_off}
+use Rattle.tape.specs.Tape.{Tape, Step, loop_is, a_block, stepped, stepped_all, frame_at, bits_of, stays_off}
 use Rattle.claims.specs.Calls.{Call, buffer, message, block, all_typed, Event, accepted, after, after_all, is_block_call, channels_of, sample_of, is_ended}
 use Rattle.claims.specs.Calls.{opening, playing, Clip, Started, clip_in, start_in, stop_in, point_in, gathered}
 use Rattle.claims.specs.LongRun.{starts_in_time, PlainBlock, Premises, frame_bits, exact_frames, Reports, Over}
@@ -31,8 +33,21 @@ step_in (block out samples time rate factor) = a_block ∷ []
 abbrev pub tape_after : ℕ → List Event → Tape
 tape_after l es = stepped_all 128 l tape.fresh (gathered step_in es)
 
--- ---- the premises: 'the other premises kept and no stop sent'
--- 'any list of blocks and loop messages', each block lent that clip unaltered, rate and factor 1
+-- by hand, a clip of 192 frames: on and two blocks, so that the tape wraps at frame 192 and comes to 64; off and a block, an exact fit
+abbrev by : Player → Call → Event
+by p c = record { before = p; call = c }
+
+abbrev some_block : Call
+some_block = block [] [] float_zero one one
+
+tape_by_hand : (p : Player)
+    → tape_after 192 (by p (message (Loop true)) ∷ by p some_block ∷ by p some_block ∷ by p (message (Loop false)) ∷ by p some_block ∷ [])
+    ≡ record { looped = false; head = record { p = 192; wrap = false }; exact_fit = true; ended = false }
+unfolding tape.head_at stepped stepped_all
+tape_by_hand p = refl
+
+-- ---- the premises: those of the long run, but that no stop is accepted, and that loop messages may stand anywhere
+-- from the first block on only blocks and loop messages, each block lent that clip unaltered, at rate and factor 1
 abbrev pub PlainStep : List ℕ → Call → Type 0
 PlainStep clip (buffer channels frames rate samples) = ⊥
 PlainStep clip (message (Start when offset duration)) = ⊥
@@ -86,7 +101,7 @@ pub record Switched (rate : Float) (options : PlayerOptions) (es : List Event) (
   -- once ended, the player stays so and gives zeros for good, loop messages or not
   pub over : (front back : List Event) → es ≡ front ++ back → is_ended (after_all (fresh_with rate options) front) ≡ true → Over back
 
--- ---- demand 3's rule is the tape's, with no switch during playback
+-- ---- with no switch during playback, the long run's rule is the tape's
 -- the tape after k blocks of n samples, the loop as it was before them
 abbrev pub unswitched : ℕ → ℕ → Bool → ℕ → Tape
 unswitched n l looped k = stepped_all n l tape.fresh (loop_is looped ∷ replicate k a_block)
@@ -104,8 +119,8 @@ pub record LoopSwitch : Type 0 where
   -- for every output rate that a player can be made for, whatever tolerances it is made with, and every list of calls on that fresh player
   pub switched : (rate : Float) (options : PlayerOptions) → T (fits binary32 rate) → T (valid_rate rate) → (calls : List Call) → T (all_typed calls)
       → (h : SwitchPremises rate (accepted (fresh_with rate options) calls)) → Switched rate options (accepted (fresh_with rate options) calls) h.clip
-  -- every list of demand 3 without a stop is one of these lists
+  -- every list of the long run without a stop is one of these lists
   pub older : (rate : Float) (options : PlayerOptions) (calls : List Call) → Premises rate (accepted (fresh_with rate options) calls)
       → gathered stop_in (opening (accepted (fresh_with rate options) calls)) ≡ [] → SwitchPremises rate (accepted (fresh_with rate options) calls)
-  -- and the frames and positions that demand 3 names are the tape's
+  -- and the frames and positions that the long run's statement names are the tape's
   pub same_rule : (n : ℕ) (looped : Bool) (clip : Clip) (k : ℕ) → 0 < n → 0 < clip.frames → NoSwitch n looped clip k

@@ -1,4 +1,5 @@
--- Lists of calls that meet the premises of the statement about the loop switched during playback. Definitions only.
+-- Lists of calls that meet the premises of the statement about the loop switched during playback (docs/REFERENCE.md, 'The loop switch'). Definitions
+-- only.
 use Rattle.std.specs.Prelude.{◌≡◌, Bool, true, false, List, [], ◌∷◌, ℕ, T, negsuc, length, replicate, Float}
 use Rattle.std.specs.Float.{fin, binary32}
 use Rattle.std.specs.Float.Ieee.{fits}

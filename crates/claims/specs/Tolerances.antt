@@ -42,8 +42,8 @@ pub record KeepsTolerances : Type 0 where
 -- ---- every near test receives it
 -- The settings of a block hold the player's. In a block with these settings, and in a conversion with these tolerances, each definition that has a near
 -- test, or calls one that has, is the one of the given numbers with the record's own in their place: near for near, near zero for near zero, and the
--- relabel distance. So is the whole block: its answer, the player that it leaves, and the output. Every list of calls, plain, in cents or looked at
--- before, takes its blocks from `plan`.
+-- relabel distance. So is the whole block: its answer, the player that it leaves, and the output. A block call, a block in cents and a
+-- preview all take what they give from `plan`.
 pub record Receives : Type 0 where
   pub settings : (p : Player) (time rate computed : Float) → (block.settings p time rate computed).tolerances ≡ p.tolerances
   -- a sample's playhead

@@ -1,7 +1,9 @@
-// What stands above the calls: statements about their definitions, each pinned to a function with
-// an empty body, so that the check names it.
+//! Statements about every list of calls on one player, about conversions, and about the tolerances
+//! (docs/REFERENCE.md). Each function here has an empty body: its contract is a statement, which the
+//! check proves by the function's name.
 #![tactic(auto)]
 
+ghost use Rattle.claims.specs.ByHand.{ByHand};
 ghost use Rattle.claims.specs.Conversions.{KeepsTime};
 ghost use Rattle.claims.specs.Instances.{Instances};
 ghost use Rattle.claims.specs.Known.{KnownFrames};
@@ -11,12 +13,14 @@ ghost use Rattle.claims.specs.LoopSwitch.{LoopSwitch};
 ghost use Rattle.claims.specs.SwitchInstances.{SwitchInstances};
 ghost use Rattle.claims.specs.Tolerances.{KeepsTolerances, Receives, ReadNowhereElse, AtDefaults};
 
-// Demand 3, for every list of calls on one fresh player.
+/// The long run: what every list of calls on one fresh player plays, and when the player ends, if
+/// from the first block on it has only blocks of 128 samples at rate and factor 1.
 pub fn long_run()
     ensures { LongRun }
 {}
 
-// Lists with blocks in cents beside the other calls give what the lists of demand 3 give.
+/// Lists with blocks in cents beside the other calls give what the lists give in which each block in
+/// cents is the block with its factor.
 #[tactic(auto, using(crate::proofs::Longer::blocks_in_cents))]
 pub fn blocks_in_cents()
     ensures { InCents }
@@ -24,34 +28,41 @@ pub fn blocks_in_cents()
     detune::factor_is_exact();
 }
 
-// Lists with previews strewn in give what they give without them, and a preview shows what the next
-// block with its arguments gives.
+/// Lists with previews strewn in give what they give without them, and a preview shows what the next
+/// block with its arguments gives.
 #[tactic(auto, using(crate::proofs::Unseen::previews))]
 pub fn previews()
     ensures { Previews }
 {}
 
-// The loop switched between blocks: every list that meets the premises follows the tape, and
-// without a switch during playback the tape has demand 3's frames and positions.
+/// The loop switched between blocks: every list that meets the premises follows the tape, and
+/// without a switch during playback the tape has the frames and positions of the long run.
 #[tactic(auto, using(crate::proofs::Switched::loop_switch_lem))]
 pub fn loop_switch()
     ensures { LoopSwitch }
 {}
 
-// Lists of calls that meet the premises of `long_run`: looped, unlooped, and with a stop.
+/// Lists of calls that meet the premises of `long_run`: looped, unlooped, and with a stop at a
+/// block's start, at its end, and within it.
 #[tactic(auto, using(crate::proofs::Instances::instances))]
 pub fn premises_are_met()
     ensures { Instances }
 {}
 
-// Lists of calls that meet the premises of `loop_switch`: switched before the first block, within
-// the clip, after a wrap, at an exact fit, and after the end.
+/// Lists of calls that meet the premises of `loop_switch`: switched before the first block, within
+/// the clip, after a wrap, at an exact fit, and after the end.
 #[tactic(auto, using(crate::proofs::SwitchInstances::switch_instances))]
 pub fn switches_are_met()
     ensures { SwitchInstances }
 {}
 
-// A player keeps the tolerances that it was made with, through every list of calls.
+/// What can be followed by hand of the definitions above, beside what the player gives.
+#[tactic(auto, using(crate::proofs::ByHand::by_hand))]
+pub fn statements_by_hand()
+    ensures { ByHand }
+{}
+
+/// A player keeps the tolerances that it was made with, through every list of calls.
 #[tactic(auto, using(crate::proofs::Tolerances::keeps_tolerances))]
 pub fn tolerances_kept()
     ensures { KeepsTolerances }
@@ -78,16 +89,16 @@ pub fn at_defaults()
     ensures { AtDefaults }
 {}
 
-// Conversion by a real change keeps time. Frame i of the result is read at i × source rate / target
-// rate, rounded once, so within 2^-28 frame. At m times the rate there are m times the frames, and
-// frame m × j has the value of the source's frame j, where that one and the next are finite.
+/// Conversion by a real change keeps time. Frame i of the result is read at i × source rate / target
+/// rate, rounded once, so within 2^-28 frame. At m times the rate there are m times the frames, and
+/// frame m × j has the value of the source's frame j, where that one and the next are finite.
 #[tactic(auto, using(crate::proofs::Multiples::keeps_time))]
 pub fn conversion_keeps_time()
     ensures { KeepsTime }
 {}
 
-// Document 01's starred known frames. Those of rounding, of the fused step and of buffers are their
-// crates' claims.
+/// The known frames that are proved. Those of rounding, of the fused step and of buffers are their
+/// crates' claims.
 #[tactic(auto, using(crate::proofs::Known::known_frames))]
 pub fn known_frames()
     ensures { KnownFrames }

@@ -1,5 +1,5 @@
--- Laws of the tape.
+-- The tapes to follow by hand, and laws of the tape.
+pub mod Known
 pub mod Heads
 pub mod Laws
 pub mod Premise
-pub mod Known

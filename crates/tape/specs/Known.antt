@@ -1,4 +1,4 @@
--- Tapes that can be followed by hand, with blocks of 4 samples. Definitions only.
+-- Tapes that can be followed by hand (docs/REFERENCE.md, 'The loop switch'), with blocks of 4 samples. Definitions only.
 use Rattle.std.specs.Prelude.{◌≡◌, true, false, List, [], ◌∷◌, ℕ, None, Some, Option}
 use Rattle.tape.specs.Tape.{Tape, Step, loop_is, a_block, fresh, stepped, stepped_all, frame_at, stays_off}
 
@@ -25,10 +25,10 @@ pub record KnownTapes : Type 0 where
   -- 6 frames: off after a wrap, past the end, and on again
   pub wrapped : blocks 6 fresh (loop_is true ∷ a_block ∷ a_block ∷ loop_is false ∷ a_block ∷ a_block ∷ loop_is true ∷ a_block ∷ [])
       ≡ row 0 1 2 3 ∷ row 4 5 0 1 ∷ row 2 3 4 5 ∷ zeros ∷ zeros ∷ []
-  -- 6 frames: p = L without a wrap stays, also after a block that wrapped, so that off gives zeros
+  -- 6 frames: p at the clip's length without a wrap stays, also after a block that wrapped, so that off gives zeros
   pub kept : blocks 6 fresh (loop_is true ∷ a_block ∷ a_block ∷ a_block ∷ loop_is false ∷ a_block ∷ [])
       ≡ row 0 1 2 3 ∷ row 4 5 0 1 ∷ row 2 3 4 5 ∷ zeros ∷ []
-  -- 4 frames: p = L with a wrap becomes 0, so that off plays the clip once more
+  -- 4 frames: p at the clip's length with a wrap becomes 0, so that off plays the clip once more
   pub started_over : blocks 4 fresh (loop_is true ∷ a_block ∷ a_block ∷ loop_is false ∷ a_block ∷ a_block ∷ [])
       ≡ row 0 1 2 3 ∷ row 0 1 2 3 ∷ row 0 1 2 3 ∷ zeros ∷ []
   -- 4 frames: an exact fit, which doesn't end the tape; the next block does. 5 frames are not reached by one block
@@ -39,6 +39,6 @@ pub record KnownTapes : Type 0 where
   pub between : stays_off 4 4 fresh (a_block ∷ loop_is false ∷ loop_is true ∷ a_block ∷ []) ≡ false
   pub elsewhere : stays_off 4 4 fresh (loop_is true ∷ loop_is false ∷ a_block ∷ a_block ∷ loop_is true ∷ a_block ∷ []) ≡ true
   pub at_last : stays_off 4 4 fresh (a_block ∷ loop_is true ∷ loop_is false ∷ loop_is true ∷ []) ≡ true
-  -- loop-off may stand there, and after a looped block that comes to p = L anything may
+  -- loop-off may stand there, and after a looped block that comes to the clip's length anything may
   pub off_between : stays_off 4 4 fresh (a_block ∷ loop_is false ∷ loop_is false ∷ a_block ∷ []) ≡ true
   pub looped_before : stays_off 4 4 fresh (loop_is true ∷ a_block ∷ loop_is false ∷ loop_is true ∷ a_block ∷ []) ≡ true

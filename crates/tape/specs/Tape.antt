@@ -1,13 +1,14 @@
--- The tape (document 02, 2.6): which frame of a clip each sample plays where the loop is switched between blocks. In whole numbers alone: it knows nothing
--- of floats, of the player or of the clock. l is the number of the clip's frames, n that of a block's samples. Definitions only.
+-- The tape (docs/REFERENCE.md, 'The loop switch'): which frame of a clip each sample plays where the loop is switched between blocks. In whole numbers
+-- alone: it knows nothing of floats, of the player or of the clock. l is the number of the clip's frames, n that of a block's samples. Definitions only.
 use Rattle.std.specs.Prelude.{Bool, true, false, not, ◌&&◌, cond, List, [], ◌∷◌, ℕ, zero, suc, eqb, ltb, get_or, Option, None, Some}
 
--- 'The tape has a number p', and notes a wrap
+-- where the tape stands: a number p, and whether a wrap is noted
 pub record Head : Type 0 where
   pub p : ℕ
   pub wrap : Bool
 
--- ---- a sample: 'below L, play frame p and add 1; else, looped, play frame 0, set p to 1 and note a wrap; else give zero and add 1'
+-- ---- a sample: where p is below the clip's length, frame p is played, and p grows by 1; else, looped, frame 0 is played, p becomes 1, and a wrap is noted;
+-- else the sample is zero, and p grows by 1
 
 -- the frame that it plays; None is zero
 abbrev pub played : ℕ → Bool → ℕ → Option ℕ
@@ -24,11 +25,11 @@ unfoldable pub head_at : ℕ → Bool → Head → ℕ → Head
 head_at l looped h zero = h
 head_at l looped h (suc i) = after_sample l looped (head_at l looped h i)
 
--- 'At a block's end, p = L with a wrap noted becomes 0; the note is cleared'
+-- at a block's end, where a wrap is noted and p is the clip's length, p becomes 0; and the note is cleared
 abbrev pub at_end : ℕ → Head → Head
 at_end l h = record { p = cond (h.wrap && eqb h.p l) 0 h.p; wrap = false }
 
--- ---- 'any list of blocks and loop messages': a step is one of them
+-- ---- a list of blocks and loop messages: a step is one of them
 
 pub data Step : Type 0 where
   loop_is : Bool → Step
@@ -37,15 +38,15 @@ pub data Step : Type 0 where
 pub record Tape : Type 0 where
   pub looped : Bool
   pub head : Head
-  -- the last block was an exact fit: 'an unlooped block finishes with p exactly L'
+  -- the last block was an exact fit: it was unlooped, and finished with p at the clip's length
   pub exact_fit : Bool
   pub ended : Bool
 
--- 'from 0', the loop off
+-- before the first step: p is 0, and the loop is off
 abbrev pub fresh : Tape
 fresh = record { looped = false; head = record { p = 0; wrap = false }; exact_fit = false; ended = false }
 
--- 'An unlooped block that finishes with p above L ends the player'
+-- what a block leaves: one that was unlooped and finished with p above the clip's length ends the tape
 abbrev pub finished : ℕ → Bool → Head → Tape
 finished l looped h = record { looped = looped; head = h; exact_fit = not looped && eqb h.p l; ended = not looped && ltb l h.p }
 
@@ -59,7 +60,7 @@ stepped_all n l t [] = t
 stepped_all n l t (x ∷ xs) = stepped_all n l (stepped n l t x) xs
 
 -- ---- what a block gives: the tape before it is t
--- 'Once ended, the tape gives zeros for good, loop messages or not'
+-- once ended it gives zeros for good, whatever loop messages come
 abbrev pub frame_at : ℕ → Tape → ℕ → Option ℕ
 frame_at l t i = cond t.ended None (played l t.looped (head_at l t.looped t.head i).p)
 
@@ -68,7 +69,7 @@ abbrev pub bits_of : List ℕ → Option ℕ → ℕ
 bits_of channel None = 0
 bits_of channel (Some k) = get_or channel k 0
 
--- ---- the premise: after an exact fit, 'the list has no loop-on message between these two blocks', it and the next one
+-- ---- the premise: between an exact fit and the next block stands no loop-on message
 -- a block is still to come
 unfoldable pub has_block : List Step → Bool
 has_block [] = false
