@@ -3,7 +3,7 @@
  * Build with tools/build_library; link target/c/libnetthimble.a with -lm, or target/c/libnetthimble.so.
  *
  * Every function of the library is proved equal to its definition (crates/netthimble), refusals included. This header, its records'
- * layout and its inline forms are tested, not proved (tests/c_cases). docs/REFERENCE.md says each rule, docs/LIBRARY.md how to use it.
+ * layout and its inline forms are tested, not proved (tests/c_cases.py). docs/REFERENCE.md says each rule, docs/LIBRARY.md how to use it.
  *
  * An answer has `refusal`, or is it: 0 if the call is accepted, else a number of the table below. A refused call leaves the player and all
  * lent memory as they were; what else its answer holds is zero, but for the calls that answer a player by value: netthimble_new and

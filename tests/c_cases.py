@@ -1,5 +1,5 @@
 #!/usr/bin/env python3
-"""Builds the library for C, compiles the example and the test programs of tests/c, and runs them.
+"""Builds the library for C, compiles the examples and the test programs of tests/c, and runs them.
 
 The answers are held to the recorded ones of the Rust original (crates/replay/stdout), to the cases of tests/transcripts.py, and to what `trial`
 prints for random clips and lines, where crates/trial/out/trial is built, and to the Rust on random scripts, where oracle/build.py has built it.
@@ -22,8 +22,13 @@ C = TOP / "target/c"
 WARN = ["-Wall", "-Wextra", "-Werror", "-pedantic", "-ffp-contract=off", f"-I{TOP}/include", "-D_DEFAULT_SOURCE"]
 STATIC = [str(C / "libnetthimble.a"), "-lm"]
 SHARED = [f"-L{C}", "-lnetthimble", f"-Wl,-rpath,{C}", "-lm"]
-SOURCES = ["examples/c/play.c", *(f"tests/c/{name}.c" for name in ("cases", "tolerances", "convert", "factors", "trial", "replay"))]
+SOURCES = [
+    *(f"examples/c/{name}.c" for name in ("play", "ears")),
+    *(f"tests/c/{name}.c" for name in ("cases", "tolerances", "convert", "factors", "trial", "replay", "stack")),
+]
+RING = "examples/c/ring.c"  # has atomics, so C11 alone
 RANDOM_RUNS = 60
+RING_RUNS = 5
 check = Checks("c")
 
 
@@ -44,9 +49,9 @@ def programs(folder):
         links = [("static", STATIC), ("shared", SHARED)] if number == 0 else [("static", STATIC)]
         for kind, link in links:
             made = {}
-            for source in SOURCES:
+            for source in [*SOURCES, *([RING] if "-std=c11" in flags else [])]:
                 out = Path(folder, f"{Path(source).stem}{number}{kind}")
-                done = run([compiler, *flags, *WARN, "-o", out, TOP / source, *(["-x", "none"] if "-x" in flags else []), *link])
+                done = run([compiler, *flags, *WARN, "-pthread", "-o", out, TOP / source, *(["-x", "none"] if "-x" in flags else []), *link])
                 check(f"{compiler} {' '.join(flags)} {source}, {kind}", done.returncode == 0, done.stdout.decode()[:300])
                 made[Path(source).stem] = out
             if all(out.exists() for out in made.values()):
@@ -97,6 +102,29 @@ def example(name, program):
     check(f"{name}, example on no clip", done.stdout == b"clip: refused with 15\n" and done.returncode == 1, done.stdout[:300])
 
 
+def both_ears(name, program):
+    """A clip of two channels, and one of one channel in both ears: at the samples 0, 42, 84 and 126 of each block. The sound begins at sample 160
+    and has 200 frames, so it sounds in the blocks 1 and 2; a silent block answers one channel, and both ears are silent."""
+    expected = []
+    for channels in (2, 1):
+        for n in range(5):
+            sounds = [160 <= 128 * n + i < 360 for i in (0, 42, 84, 126)]
+            left, right = (" ".join(level if now else "0" for now in sounds) for level in ("0.5", "-0.25" if channels == 2 else "0.5"))
+            answered = channels if n in (1, 2) else 1
+            ears = f"left {left}, right {right}, keep_alive {int(n < 3)}, ended {int(n > 1)}"
+            expected.append(f"{channels} in the clip, block {n} answers {answered}: {ears}")
+    done = run([program])
+    check(f"{name}, ears", done.stdout.decode().splitlines() == expected and done.returncode == 0, done.stdout.decode())
+
+
+def beside_audio(name, program):
+    """Messages beside an audio thread, some times over: no frame is lost, and the clip ends at its last frame."""
+    expected = b"refused with 0, frames lost: 0\nended after the last frame: yes\n"
+    for _ in range(RING_RUNS):
+        done = run([program])
+        check(f"{name}, ring", done.stdout == expected and done.returncode == 0, done.stdout.decode())
+
+
 def main():
     if not library():
         return 0
@@ -106,7 +134,10 @@ def main():
         built = programs(folder)
         for seed, (name, made) in enumerate(built):
             example(name, made["play"])
-            for test, words in (("cases", []), ("tolerances", []), ("convert", [seed])):
+            both_ears(name, made["ears"])
+            if "ring" in made:
+                beside_audio(name, made["ring"])
+            for test, words in (("cases", []), ("tolerances", []), ("stack", []), ("convert", [seed])):
                 done = run([made[test], *words])
                 check(f"{name}, {test}.c", done.returncode == 0, done.stdout.decode()[:300])
             check(f"{name}, factors of cents", run([made["factors"]]).stdout == factors, "differ from the rule of the table")

@@ -1,5 +1,5 @@
 /* The C library by single calls: the records' bytes, refusals by number and in their order, what stays unchanged, slices up to their last
- * element. Each lent slice ends at a page that nobody may touch. tests/c_cases builds and runs it. */
+ * element. Each lent slice ends at a page that nobody may touch. tests/c_cases.py builds and runs it. */
 #include <fenv.h>
 #include <math.h>
 #include <xmmintrin.h>
@@ -183,11 +183,15 @@ static void accepted_stores(void) {
         p = before;
         for (int i = 0; i < 4; i++) CHECK(calls[i](&p, false) == 0 && told[i].refusal == 0 && same(&p, &told[i].player));
         CHECK(!same(&p, &before));
-        for (int i = 4; i < 6; i++) CHECK(netthimble_player_loop(&p, i == 4) == 0 && told[i].refusal == 0 && same(&p, &told[i].player) && p.loop_state.is_looping == (i == 4));
+        for (int i = 4; i < 6; i++) {
+            CHECK(netthimble_player_loop(&p, i == 4) == 0 && told[i].refusal == 0 && same(&p, &told[i].player));
+            CHECK(p.loop_state.is_looping == (i == 4));
+        }
         memset(&p, k, sizeof p);
         CHECK(by_new(&p, false) == 0 && same(&p, &made));
         memset(&p, k, sizeof p);
-        CHECK(by_new_with(&p, false) == 0 && !same(&p, &made) && p.tolerances.near == 0.25 && p.tolerances.near_zero == 0.5 && p.tolerances.relabel == 0.75f);
+        CHECK(by_new_with(&p, false) == 0 && !same(&p, &made));
+        CHECK(p.tolerances.near == 0.25 && p.tolerances.near_zero == 0.5 && p.tolerances.relabel == 0.75f);
         p.tolerances = made.tolerances;
         CHECK(same(&p, &made));
     }
@@ -195,8 +199,10 @@ static void accepted_stores(void) {
 
 /* What a call by value answers where it is refused: a message the player that it was handed, the making one that never plays, others zeros. */
 static void refused_by_value(void) {
-    netthimble_player fresh = netthimble_new(48000.0f).player, nobody = netthimble_new(NAN).player, started = netthimble_start(fresh, 1, 2, 3).player;
-    netthimble_told told[] = {netthimble_start(started, 1, 2, 3), netthimble_start(started, NAN, 2, 3), netthimble_stop(started, -1), netthimble_loop_start(started, NAN), netthimble_loop_end(started, INFINITY)};
+    netthimble_player fresh = netthimble_new(48000.0f).player, nobody = netthimble_new(NAN).player;
+    netthimble_player started = netthimble_start(fresh, 1, 2, 3).player;
+    netthimble_told told[] = {netthimble_start(started, 1, 2, 3), netthimble_start(started, NAN, 2, 3), netthimble_stop(started, -1),
+                              netthimble_loop_start(started, NAN), netthimble_loop_end(started, INFINITY)};
     uint32_t number[] = {10, 9, 9, 9, 9};
     for (int i = 0; i < 5; i++) CHECK(told[i].refusal == number[i] && same(&told[i].player, &started));
     CHECK(netthimble_stop(fresh, 1).refusal == 11);
@@ -293,7 +299,7 @@ static void blocks(void) {
     CHECK(b.channels == 2 && !p.render_state.is_aligned);
 }
 
-/* ---- cents. All the factors are compared with the table's rule by tests/c_cases, from what factors.c prints. */
+/* ---- cents. All the factors are compared with the table's rule by tests/c_cases.py, from what factors.c prints. */
 
 static const int32_t bad_cents[] = {-12001, 12001, INT32_MIN, INT32_MAX, -13200, 100000};
 

@@ -1,5 +1,5 @@
 /* Conversions beside a reading of their rule (docs/REFERENCE.md, 'Conversion'), with the processor's floats: known cases, and random shapes, rates, frames and
- * tolerances. Use: convert [SEED [COUNT]]. Prints what differs, and a line of counts. tests/c_cases builds it with -ffp-contract=off and runs it. */
+ * tolerances. Use: convert [SEED [COUNT]]. Prints what differs, and a line of counts. tests/c_cases.py builds it with -ffp-contract=off and runs it. */
 #include <inttypes.h>
 #include <math.h>
 #include <stdio.h>

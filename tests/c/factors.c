@@ -1,5 +1,5 @@
 /* Prints a line for each of the cents from -12,002 to 12,002, and for the least and the greatest: the cents, the refusal's number and the
- * bits of the factor. tests/c_cases compares them with the table's rule, in whole numbers. */
+ * bits of the factor. tests/c_cases.py compares them with the table's rule, in whole numbers. */
 #include <inttypes.h>
 #include <stdio.h>
 #include "netthimble.h"

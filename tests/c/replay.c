@@ -1,5 +1,5 @@
 /* The replay protocol (oracle/PROTOCOL.md) over the C library: every call of the header, every field of a player.
- * tests/c_cases holds it to the recorded answers of the Rust original, crates/replay/stdout. */
+ * tests/c_cases.py holds it to the recorded answers of the Rust original, crates/replay/stdout. */
 #include <sys/mman.h>
 #include "text.h"
 

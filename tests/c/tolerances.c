@@ -1,5 +1,5 @@
 /* Tolerances from C: their making, the players that are made with them and keep them, what the near tests then do, conversions, and records
- * that no call made. tests/c_cases builds and runs it. */
+ * that no call made. tests/c_cases.py builds and runs it. */
 #include <math.h>
 #include "check.h"
 

@@ -1,5 +1,5 @@
 /* `trial` over the C library: plays clip.bin of the working folder and obeys the lines of standard input (README.md, 'Playing a clip').
- * tests/c_cases compares what it prints with what `trial` prints. */
+ * tests/c_cases.py compares what it prints with what `trial` prints. */
 #include "text.h"
 
 static uint32_t out[NETTHIMBLE_OUT];
