@@ -2,7 +2,7 @@
 mod Numbers
 mod Words
 mod Each
-mod LaidOut
+pub mod LaidOut
 mod RoundTrip
 mod Accepted
 mod WriteWords

@@ -1,3 +1,4 @@
 -- The laws that `load` cites.
 mod Frames
+mod Telling
 mod ClipsPlay

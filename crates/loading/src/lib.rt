@@ -1,12 +1,15 @@
 // A clip file given to a player, for the program `trial`.
 #![tactic(auto)]
 
+mod playing;
+
 ghost use Rattle.std.specs.Prelude.{◌≡◌, ◌≤◌, length, IfOk};
 ghost use Rattle.loading.specs.Loading.{loaded, samples_out};
 ghost use Rattle.loading.specs.Statement.{ClipsPlay};
 
 use buffer::Refusal;
 use player::Player;
+pub use playing::{ROOM, play, read_front};
 
 // Reads the clip of a file's bytes as the new reader takes it: the player that it is given has the
 // clip's rate, and its samples, as many as are answered, stand at the front of `samples`.

@@ -1,6 +1,6 @@
 -- The laws that the proofs of `session` share.
 mod Stores
-mod KnownBytes
+pub mod KnownBytes
 mod Bytes
 mod Chunks
-mod Written
+pub mod Written
