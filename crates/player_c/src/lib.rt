@@ -1,4 +1,4 @@
-//! The player's blocks for C, to be measured beside the original's (tools/bench).
+//! The player's blocks for C, to be measured beside the original's (tools/bench.py).
 #![tactic(auto)]
 
 ghost use Rattle.std.specs.Prelude.{◌≡◌, length};

@@ -1,4 +1,4 @@
-//! The functions of `rounding` and `fused` for C, to be measured beside C's own (tools/bench_rounding).
+//! The functions of `rounding` and `fused` for C, to be measured beside C's own (tools/bench_rounding.py).
 #![tactic(auto)]
 
 ghost use Rattle.std.specs.Prelude.{◌≡◌};

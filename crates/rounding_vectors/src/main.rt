@@ -1,5 +1,5 @@
 //! Runs recorded vectors of `rounding` and `fused`: what a processor answered
-//! (tools/rounding_vectors makes them). A line of standard input has 70 bytes: the operation, a
+//! (tools/rounding_vectors.py makes them). A line of standard input has 70 bytes: the operation, a
 //! hex digit; three operands and the answer, 16 hex digits each; a space before each, and the
 //! line's end.
 #![tactic(auto)]
