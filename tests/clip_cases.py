@@ -485,15 +485,15 @@ def trial(r, count):
     check("trial plays and refuses", set(numbers) == {0, 15, 1, 2, 17}, numbers)
 
 
-def main(seeds):
+def main(both):
     if not library():
         return 0
     open_library()
     r = random.Random(1)
     altered(r)
     cut(r)
-    for check.seed in seeds:
-        r = random.Random(check.seed)
+    for seed in both:
+        check.seed, r = seed, random.Random(seed)
         noise(r)
         headers(r, 20000)
         writer(r, 10000)

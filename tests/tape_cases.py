@@ -209,15 +209,15 @@ def random_list(r, n):
         last = at
 
 
-def main(seeds):
+def main(both):
     global netthimble
     if not library():
         return 0
     import netthimble
 
     by_hand()
-    for check.seed in seeds:
-        r = random.Random(check.seed)
+    for seed in both:
+        check.seed, r = seed, random.Random(seed)
         for n in range(LISTS):
             random_list(r, n)
     return check.ended()

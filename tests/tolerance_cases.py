@@ -227,14 +227,14 @@ def by_default(n, script):
     check(f"defaults {n}, converted", len({(c.rate, c.frames, c.bits(0).tobytes()) for c in made}) == 1, script)
 
 
-def main(seeds):
+def main(both):
     global netthimble
     if not library():
         return 0
     import netthimble
 
-    for check.seed in seeds:
-        r = random.Random(check.seed)
+    for seed in both:
+        check.seed, r = seed, random.Random(seed)
         others = sum(beside_reading(n, Script(r)) for n in range(SCRIPTS))
         check("the tolerances matter", others > SCRIPTS / 10, f"{others} of {SCRIPTS} scripts differ from the defaults")
         for n in range(SCRIPTS // 5):

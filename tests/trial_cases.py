@@ -115,9 +115,9 @@ class Top:
         self.path("crates/trial/out").mkdir()
         self.script("crates/trial/out/trial", MADE)
 
-    def run(self, *words, given=b"", prefix=(), tools=True):
-        path = f"{self.path('bin')}:/usr/bin:/bin" if tools else "/usr/bin:/bin"
-        return run([*prefix, self.path("trial"), *words], given, self.folder, stderr=subprocess.PIPE, env={"PATH": path})
+    def run(self, *words, given=b"", prefix=(), has_rt=True, env=None):
+        path = f"{self.path('bin')}:/usr/bin:/bin" if has_rt else "/usr/bin:/bin"
+        return run([*prefix, self.path("trial"), *words], given, self.folder, stderr=subprocess.PIPE, env={"PATH": path, **(env or {})})
 
 
 def told(name, done, status, stdout, *stderr):
@@ -146,10 +146,11 @@ def options_and_absences(top):
     told("lines are a folder", top.run("clips", "clips"), 2, "", "can't be read: clips")
     told("no clip", top.run("bin"), 1, "X 15\n", "no clip.bin that can be read")
     told("no clip, quiet", top.run("-q", "bin"), 1, "X 15\n", "no clip.bin that can be read")
+    told("nowhere for what is tried", top.run("-q", "clips", env={"TMPDIR": "/none"}), 2, "", "no temporary file can be made in /none")
     top.path("kit/clip.bin").mkdir()
     told("the clip is a folder", top.run("kit"), 1, "X 15\n", "no clip.bin that can be read")
     if shutil.which("rt", path="/usr/bin:/bin") is None:
-        told("no rt", top.run("clips", tools=False), 2, "", "rt, the Rattle toolchain's command, is not on PATH")
+        told("no rt", top.run("clips", has_rt=False), 2, "", "rt, the Rattle toolchain's command, is not on PATH")
     prefix = unprivileged()
     if prefix is None or top.run("--help", prefix=prefix).returncode != 0:
         print("trial: ./trial without permissions was not tried: nobody can't run it here")
@@ -181,6 +182,8 @@ def proved_runs(top):
     told("proved", top.run("clips"), 0, "20\nB\n", "plays clip.bin of")
     told("proved, other lines", top.run("-q", "clips", "-", given=b"L 1\n"), 0, "20\nL 1\n")
     check("./trial proves only where it is asked", top.log.read_text() == "proved\n", top.log.read_text())
+    shutil.copytree(top.path("clips"), top.path("two words"))
+    told("proved, a blank in the name", top.run("two words", "two words/lines"), 0, "20\nB\n", "two words, obeying two words/lines")
     top.path("clips/lines").unlink()
     told("proved, standard input", top.run("clips", given=b"L 0\n"), 0, "20\nL 0\n", "standard input")
 

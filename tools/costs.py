@@ -3,8 +3,8 @@
 seconds of proving it, where the log has what `tools/prove` printed. Both in one log: { rt ci; tools/prove NAME..; } > LOG 2>&1
 --write puts what is known into tools/costs.tsv, by whose seconds tools/prove estimates.
 """
+import argparse
 import re
-from pathlib import Path
 
 from shared import TOP, options
 
@@ -39,8 +39,8 @@ def show(found):
 
 def crates():
     """The names of crates.txt, in its order."""
-    lines = [line.split("#")[0] for line in (TOP / "crates.txt").read_text().splitlines()]
-    return [line.split()[0] for line in lines if ":" in line]
+    lines = [line.split("#")[0].partition(":") for line in (TOP / "crates.txt").read_text().splitlines()]
+    return [name.split()[0] for name, colon, _ in lines if colon]
 
 
 def write(found):
@@ -58,10 +58,10 @@ def write(found):
 
 if __name__ == "__main__":
     words = options(__doc__)
-    words.add_argument("log", metavar="LOG", type=Path)
+    words.add_argument("log", metavar="LOG", type=argparse.FileType())
     words.add_argument("--write", action="store_true")
     given = words.parse_args()
-    found = read(given.log.read_text())
+    found = read(given.log.read())
     show(found)
     if given.write:
         write(found)

@@ -102,7 +102,8 @@ pub fn split(shape: Shape, point: u64, words: &[u32], out: &mut Vec<u8>) -> Resu
     Ok(())
 }
 
-/// The original says whether it relabels, and the result's length and rate; the frames of a real change are resampling.rs's.
+/// The original says whether it relabels, and the result's length and rate; the frames of a real change are
+/// resampling.rs's.
 pub fn convert(
     shape: Shape,
     wanted: f32,

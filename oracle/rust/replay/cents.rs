@@ -1,4 +1,5 @@
-//! The factor of whole cents (docs/REFERENCE.md, 'Detune in cents'). Each entry is found by the rule in large integers; no table is read.
+//! The factor of whole cents (docs/REFERENCE.md, 'Detune in cents'). Each entry is found by the rule in large
+//! integers; no table is read.
 use super::table::{row_16_cents, Refusal};
 
 const OCTAVE: i32 = 1_200;

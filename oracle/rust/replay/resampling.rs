@@ -1,5 +1,5 @@
-//! The frames of a conversion by a real change (docs/REFERENCE.md, 'Conversion'). The original reads them elsewhere, so they come
-//! from its words and the processor's floats.
+//! The frames of a conversion by a real change (docs/REFERENCE.md, 'Conversion'). The original reads them elsewhere,
+//! so they come from the section's words and the processor's floats.
 use super::print::calculated;
 
 /// Frame i is read at its own instant in the original: i times the source's rate, then by the target's, in f64.

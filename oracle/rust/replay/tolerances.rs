@@ -1,5 +1,5 @@
-//! The record of near, near zero and the relabel distance, which a player is made with and keeps, and a conversion is handed
-//! (docs/REFERENCE.md, 'Near tests and tolerances').
+//! The record of near, near zero and the relabel distance, which a player is made with and keeps, and a conversion
+//! is handed (docs/REFERENCE.md, 'Near tests and tolerances').
 use super::table::{row_18_tolerance, Refusal};
 use super::text::Words;
 

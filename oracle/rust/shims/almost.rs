@@ -1,5 +1,6 @@
-//! Stand-in for the crate `almost`, as docs/REFERENCE.md, 'Near tests and tolerances' defines it for both sides. The tolerances are
-//! put before the original is called (replay/tolerances.rs), and every near test reads them. None is built in.
+//! Stand-in for the crate `almost`, as docs/REFERENCE.md, 'Near tests and tolerances' defines it for both sides. The
+//! tolerances are put before the original is called (replay/tolerances.rs), and every near test reads them. None is
+//! built in.
 use std::cell::Cell;
 
 thread_local! {

@@ -1,6 +1,6 @@
-//! Stand-in for the crate `float_eq`, in the one form that buffer.rs uses: f32 subtraction, then the magnitude against the relabel
-//! distance (docs/REFERENCE.md, 'Near tests and tolerances'), an f32 too, which is put before the original is called. The bound that the original writes there,
-//! 0.1, is not read.
+//! Stand-in for the crate `float_eq`, in the one form that buffer.rs uses: f32 subtraction, then the magnitude against
+//! the relabel distance (docs/REFERENCE.md, 'Near tests and tolerances'), an f32 too, which is put before the original
+//! is called. The bound that the original writes there, 0.1, is not read.
 use std::cell::Cell;
 
 thread_local! {
