@@ -1,5 +1,5 @@
-//! `replay bench`: the time of the original's calls, as lines `name ns`: for a block, or for a call of a million frames.
-//! tools/bench.c makes the same runs of ours.
+//! `replay bench`: the time of the original's calls, as lines `name ns`: for a block, or for a call of a million
+//! frames. tools/bench.c makes the same runs of ours.
 use super::buffers::Shape;
 use super::player::Player;
 use super::tolerances::Tolerances;

@@ -1,5 +1,5 @@
-//! Reads the renderer's private record for the `Z` line, and copies it for a preview. The only module of ours inside the
-//! original's.
+//! Reads the renderer's private record for the `Z` line, and copies it for a preview. The only module of ours inside
+//! the original's.
 use super::{AudioBufferRendererState, AudioBufferSourceNode, AudioBufferSourceRenderer};
 use crate::context::AudioParamId;
 use crate::render::AudioProcessor;
