@@ -28,7 +28,7 @@
  * What C can break. The proofs hold for what a Rattle program could pass. A C program must see to it that
  *   - a player's pointer leads to a netthimble_player in which each bool is 0 or 1: also where a player is made in it. So the record is
  *     static, or set to zeros where it is declared (`= {0}`; in C++ `= {}`), or what an earlier call left, and not memory in which
- *     nothing was ever stored. For the tolerances that netthimble_tolerances_set stores into the same;
+ *     nothing was ever stored. So too the tolerances behind the pointer of netthimble_tolerances_set;
  *   - each other pointer leads to as many elements as the length beside it; aligned, and not null (with the length 0 it is never
  *     followed, and may be null);
  *   - memory that a call writes (`out`, `destination`, a record ..) overlaps no other memory lent to the same call, and no other thread
@@ -165,7 +165,8 @@ typedef struct {
  * where there is nothing to come as the player stands: it has ended, or it has received no start.
  *
  * `ended` is true if the player has ended with this block or before it: every later block is silent, for good, and no message makes it
- * play again; the next sound takes a new player. A block that plays up to its end has both, `keep_alive` and `ended`. */
+ * play again; the next sound takes a new player. A block that plays up to its end has both, `keep_alive` and `ended`; one that is refused has
+ * neither, and the position 0. */
 typedef struct {
     double position; /* after the block, in seconds of the clip */
     size_t channels;
@@ -284,7 +285,7 @@ NETTHIMBLE_HOLDS(count_size, sizeof(netthimble_count) == 16);
 NETTHIMBLE_AT(count, count, count, 0);
 NETTHIMBLE_AT(count, refusal, refusal, 8);
 
-/* ---- the player */
+/* ---- the records' sizes */
 
 /* The bytes of a player's record, and of its options, in the library: 168 and 24, as here. */
 size_t netthimble_player_size(void);
@@ -295,7 +296,8 @@ size_t netthimble_options_size(void);
  * it takes the record by value, and answers the next one. */
 
 /* A fresh player for an output of this sample rate, with the default options: no start, no buffer, loop off. Refused: 2.
- * By value a refused rate is answered with a player that never plays: it has ended, and a start, a buffer and every block of it are refused. */
+ * The record behind the pointer then holds what it held, and zeros are no player: look at the number. By value a refused rate is answered with
+ * a player that never plays: it has ended, and a start, a buffer and every block of it are refused. */
 uint32_t netthimble_player_new(netthimble_player *player, float sample_rate);
 netthimble_told netthimble_new(float sample_rate);
 
