@@ -34,7 +34,8 @@ from shared import CC, TOP, Checks, library, options, program, run, subject  # n
 
 sys.path.insert(0, str(TOP / "python"))
 HANDED = "( [0-9A-F]{16} [0-9A-F]{16} [0-9A-F]{8})?"  # tolerances
-FORMS = "R .*|#.*|C [0-9]{1,9} [0-9]{1,9} [0-9A-F]{8}|Q [0-9]{1,9} [0-9]{1,9} [0-9A-F]{8} [0-9A-F]{8}" + HANDED + "|W( [0-9A-F]{8})+|S( [0-9A-F]{16}){3}|[TPE] [0-9A-F]{16}|L [01]|[BM] [0-9A-F]{16} [0-9A-F]{8} [0-9A-F]{16}|[DN] [0-9A-F]{16} [0-9A-F]{8} [0-9A-F]{8}"
+SHAPE, WORD, LONG = "[0-9]{1,9} [0-9]{1,9} [0-9A-F]{8}", "[0-9A-F]{8}", "[0-9A-F]{16}"
+FORMS = f"R .*|#.*|C {SHAPE}|Q {SHAPE} {WORD}{HANDED}|W( {WORD})+|S( {LONG}){{3}}|[TPE] {LONG}|L [01]|[BM] {LONG} {WORD} {LONG}|[DN] {LONG} {WORD} {WORD}"
 NAN, INF = float("nan"), float("inf")
 check = Checks("python")
 
@@ -171,7 +172,8 @@ def replay(lines):
             elif w[0] in "BDMN":
                 speed = {"factor": f64(w[3])} if w[0] in "BM" else {"cents": int.from_bytes(bytes.fromhex(w[3]), "big", signed=True)}
                 block = (player.block if w[0] in "BD" else player.preview)(f64(w[1]), f32(w[2]), **speed)
-                out.append("%s %d %d %d %s\n" % ("B" if w[0] == "D" else w[0], block.keep_alive, block.ended, len(block.bits), struct.pack(">d", block.position).hex().upper()))
+                name, position = "B" if w[0] == "D" else w[0], struct.pack(">d", block.position).hex().upper()
+                out.append("%s %d %d %d %s\n" % (name, block.keep_alive, block.ended, len(block.bits), position))
                 out.extend(cases.runs(c, x) for c, x in enumerate(block.bits))
             else:
                 message(player, w)
@@ -238,8 +240,8 @@ def refusals():
     refuses("a second clip", 10, p.set_clip, one)
     p.start()
     refuses("a second start", 10, p.start)
-    for time in (NAN, INF, -1.0, 2.0**30 + 1):
-        refuses(f"time {time}", 13, p.block, time)
+    for at in (NAN, INF, -1.0, 2.0**30 + 1):
+        refuses(f"time {at}", 13, p.block, at)
     for rate, factor in ((NAN, 1.0), (INF, 1.0), (1e300, 1.0), (1.0, NAN), (1.0, 0.0), (1.0, -1.0), (1.0, 2.0**65)):
         refuses(f"rate {rate}, factor {factor}", 14, p.block, 0.0, rate, factor)
     check("not begun", not p.ended and p.position == 0.0)
@@ -336,8 +338,8 @@ def narrowed(x):
 
 
 def read_at(words, position):
-    """A frame as in docs/REFERENCE.md, 'Conversion': above the last one its bits, else the two beside the position, weighted, each step rounded. An f32 product is exact
-    in f64, and a sum of two is narrowed as if it were."""
+    """A frame as in docs/REFERENCE.md, 'Conversion': above the last one its bits, else the two beside the position, weighted, each step
+    rounded. An f32 product is exact in f64, and a sum of two is narrowed as if it were."""
     last = len(words) - 1
     if position > last:
         return words[last]
@@ -362,7 +364,7 @@ def conversions():
     """Clips at another rate (docs/REFERENCE.md, 'Conversion')."""
     clip = netthimble.Clip(24000, [[0.0, 3.0], [3.0, -3.0]])
     made = clip.convert(48000)
-    check("0, 3 at twice the rate", [list(made.samples(c)) for c in (0, 1)] == [[0.0, 1.5, 3.0, 3.0], [3.0, 0.0, -3.0, -3.0]] and made.sample_rate == 48000.0, held(made))
+    same_clip("0, 3 at twice the rate", made, [[0.0, 1.5, 3.0, 3.0], [3.0, 0.0, -3.0, -3.0]])
     check("the clip that was converted stays", held(clip) == (24000.0, 2, [[0, 0x40400000], [0x40400000, 0xC0400000]]))
     for words, rate in (([0x40E00000, 0x41000000], 24000), ([0x40E00000, 0x41000000, 0x7F800001], 16000), ([0x40E00000], 44100), ([0x40E00000] * 7, 3000)):
         made = netthimble.Clip.from_bits(48000, [array("I", words)]).convert(rate)
@@ -388,7 +390,8 @@ def conversions():
     for n in range(200):
         rate = r.choice([8000.0, 24000.0, 44100.0, 48000.0, f32("%08X" % r.randint(0x453B8000, 0x493B8000))])
         frames = r.choice([1, 2, 3, 5, r.randint(1, 200)])
-        other = r.choice([48000.0, 44100.0, 3000.0, narrowed(2 * rate), narrowed(rate / 3), narrowed(rate / frames), f32("%08X" % r.randint(0x453B8000, 0x493B8000))])
+        near = narrowed(2 * rate), narrowed(rate / 3), narrowed(rate / frames)
+        other = r.choice([48000.0, 44100.0, 3000.0, *near, f32("%08X" % r.randint(0x453B8000, 0x493B8000))])
         other = min(max(other, 3000.0), 768000.0)
         rows = [array("I", [r.choice([r.getrandbits(32), 0x3F800000 + r.getrandbits(23)]) for _ in range(frames)]) for _ in range(r.randint(1, 3))]
         if abs(rate - other) > 0.1:
@@ -413,7 +416,8 @@ def makings():
             t = made(**{name: x})
             ok = list(values(t)) == plain[:n] + [float(x)] + plain[n + 1 :] and math.copysign(1, values(t)[n]) == math.copysign(1, x)
             check(f"{name} of {x}", ok and all(type(v) is float for v in values(t)), t)
-        for x in (math.nextafter(1, 2) if n < 2 else 1 + 2.0**-23, -smallest if n < 2 else -(2.0**-149), 2, 2.0, -1, NAN, INF, -INF, 1e300, -1e300, 10**400, -(10**400)):
+        beside = (math.nextafter(1, 2), -smallest) if n < 2 else (1 + 2.0**-23, -(2.0**-149))
+        for x in (*beside, 2, 2.0, -1, NAN, INF, -INF, 1e300, -1e300, 10**400, -(10**400)):
             refuses(f"{name} of {x}", 18, lambda: made(**{name: x}))
         for x in ("1", b"1", [], 1j, made()):
             names(f"{name} of {x!r}", TypeError, name, lambda: made(**{name: x}))
@@ -458,10 +462,12 @@ def kept(t, write=None):
         write(p._record.tolerances)
     before = fields(p._record.tolerances)
     clip = netthimble.Clip(48000, [[1.0 + n for n in range(200)]] * 2)
-    calls = [lambda: p.stop(1.0), lambda: p.start(-1.0), lambda: p.start(0.0001), p.start, lambda: p.set_clip(netthimble.Clip(48000, [[]])), lambda: p.set_clip(clip)]
+    calls = [lambda: p.stop(1.0), lambda: p.start(-1.0), lambda: p.start(0.0001), p.start]
+    calls += [lambda: p.set_clip(netthimble.Clip(48000, [[]])), lambda: p.set_clip(clip)]
     calls += [lambda: p.set_clip(clip), lambda: p.set_loop(True), lambda: p.set_loop_start(0.001), lambda: p.set_loop_start(NAN), lambda: p.set_loop_end(0.002)]
     calls += [lambda: p.preview(0.0), lambda: p.block(0.0), lambda: p.block(0.0), lambda: p.preview(0.01, cents=1), lambda: p.block(0.01, cents=-50)]
-    calls += [lambda: p.block(0.02, NAN), lambda: p.block(0.02, -1.0), lambda: p.set_loop(False), lambda: p.block(0.03, cents=12001), lambda: p.block(0.04, 0.5)]
+    calls += [lambda: p.block(0.02, NAN), lambda: p.block(0.02, -1.0), lambda: p.set_loop(False)]
+    calls += [lambda: p.block(0.03, cents=12001), lambda: p.block(0.04, 0.5)]
     calls += [lambda: p.stop(0.05), lambda: p.block(0.05), lambda: p.block(0.06), lambda: p.preview(0.07)]
     refused = 0
     for n, call in enumerate(calls):
@@ -490,7 +496,8 @@ def unmade():
             player.loop = True
         for n in range(4):
             a, b = p.block(n / 400, 0.75), q.block(n / 400, 0.75)
-            check(f"a record that no call made, {near}, {n}", a.bits == b.bits and a.position == b.position and set(a.samples[0]) <= {0.0} | set(between(a.samples[0])))
+            same = a.bits == b.bits and a.position == b.position
+            check(f"a record that no call made, {near}, {n}", same and set(a.samples[0]) <= {0.0} | set(between(a.samples[0])))
         shown = values(p.tolerances)
         check("shown as it is", str(shown) == str((near, near_zero, narrowed(relabel))), shown)
 
@@ -672,6 +679,15 @@ def saving():
         file.chmod(0o640)
         (folder / "circle").symlink_to("circle")
         raises("links in a circle", OSError, clip.save, folder / "circle")
+        for path in (folder, folder / "none" / "clip.bin", file / "clip.bin", folder / "circle", str(folder / "none" / "other.bin")):
+            try:
+                clip.save(path)
+            except OSError as wrong:
+                check("the path that was given", wrong.filename == str(path) and wrong.errno and repr(str(path)) in str(wrong), wrong)
+        try:
+            limited(lambda: clip.save(link), 100)
+        except OSError as wrong:
+            check("the path that was given, of a file that is too large", wrong.filename == str(link), wrong)
         (folder / "circle").unlink()
         for path in (link, loose, folder / ("x" * 255)):
             clip.save(path)
@@ -862,8 +878,8 @@ def errors():
     """`Refused` is a ValueError that is pickled and copied with all it has."""
     for made in (netthimble.Refused("start", 9, "when=-1.0"), netthimble.Refused("Clip", 1, None, "A hint"), netthimble.Refused("call", 99)):
         for again in (pickle.loads(pickle.dumps(made)), copy.copy(made), copy.deepcopy(made)):
-            same = (str(again), again.call, again.number, again.argument, again.hint, again.words) == (str(made), made.call, made.number, made.argument, made.hint, made.words)
-            check(f"{made} again", same and type(again) is netthimble.Refused and isinstance(again, ValueError))
+            same = all(getattr(again, name) == getattr(made, name) for name in ("args", "call", "number", "argument", "hint", "words"))
+            check(f"{made} again", same and str(again) == str(made) and type(again) is netthimble.Refused and isinstance(again, ValueError))
     check("what it says", str(netthimble.Refused("stop", 11)) == "stop: refused with 11: a stop before a start")
     check("all numbers have words", sorted(netthimble.WORDS) == list(range(1, 19)))
     clip = netthimble.Clip.from_bits(48000, [[1, 0x7FC00001], [3, 4]], 1)
@@ -953,7 +969,8 @@ def float_kinds():
     """Floats in rows and in frames."""
     clip, frames = netthimble.Clip, netthimble.Clip.from_frames
     one, rows = [0.1, -0.25, 1.0], [[0.1, -0.25, 1.0], [0.5, 2.0**-149, 3.4028234663852886e38]]
-    for name, made in (("lists", rows), ("tuples", tuple(map(tuple, rows))), ("array f", [array("f", r) for r in rows]), ("array d", [array("d", r) for r in rows])):
+    arrays = (f"array {typecode}" for typecode in "fd"), ([array(typecode, r) for r in rows] for typecode in "fd")
+    for name, made in (("lists", rows), ("tuples", tuple(map(tuple, rows))), *zip(*arrays)):
         same_clip(f"rows of {name}", clip(48000, made, 2), rows, onset=2)
         same_clip(f"rows of {name}, in memory", clip(48000, [memoryview(r) if isinstance(r, array) else iter(r) for r in made]), rows)
     same_clip("rows from a generator", clip(48000, (r for r in rows)), rows)
@@ -973,7 +990,8 @@ def bad_kinds():
     """Whole numbers, bytes, text, nested rows, values that no f32 holds, and the other layout."""
     clip, frames, bits = netthimble.Clip, netthimble.Clip.from_frames, netthimble.Clip.from_bits
     for typecode in "bBhHiIlLqQ":
-        names(f"rows of array {typecode}", TypeError, "Clip: channels[0] holds whole numbers|Clip.from_pcm(sample_rate, data, bits)|Clip.from_bits", clip, 48000, [array(typecode, [1, 2, 3])])
+        words = "Clip: channels[0] holds whole numbers|Clip.from_pcm(sample_rate, data, bits)|Clip.from_bits"
+        names(f"rows of array {typecode}", TypeError, words, clip, 48000, [array(typecode, [1, 2, 3])])
         names(f"frames of array {typecode}", TypeError, "Clip.from_frames: frames holds whole numbers|Clip.from_pcm", frames, 48000, array(typecode, [1, 2, 3]))
     for row in (b"\0\0", bytearray(4), memoryview(b"abcd"), (ctypes.c_int16 * 2)(1, 2)):
         names(f"a row of {type(row).__name__}", TypeError, "Clip: channels[1] holds whole numbers or bytes|Clip.from_pcm", clip, 48000, [[0.0], row])
@@ -999,7 +1017,8 @@ def bad_kinds():
     names("frames as rows, in lists", netthimble.Refused, "refused with 1: |Clip.from_frames", clip, 48000, [[0.0, 0.0]] * 33)
     for count in (3, 20, 32):
         names(f"{count} frames as rows", ValueError, f"{count} channels of 2 frames|other layout|Clip.from_frames", clip, 48000, [[0.0, 0.0]] * count)
-        names(f"2 rows of {count} as frames", ValueError, f"{count} channels of 2 frames|other layout|Clip(sample_rate, channels)", frames, 48000, [[0.0] * count] * 2)
+        words = f"{count} channels of 2 frames|other layout|Clip(sample_rate, channels)"
+        names(f"2 rows of {count} as frames", ValueError, words, frames, 48000, [[0.0] * count] * 2)
     same_clip("as many frames as channels", clip(48000, [[0.0, 1.0], [2.0, 3.0]]), [[0.0, 1.0], [2.0, 3.0]])
     names("ragged frames", netthimble.Refused, "frames[1] of 1 channels|refused with 1: ", frames, 48000, [[0.0, 0.0], [0.0]])
     check("one frame of many channels goes in by its bits", bits(48000, [[0]] * 32).channels == 32)
@@ -1023,7 +1042,8 @@ def whole_kinds():
         packed = b"".join(x.to_bytes(width, "little", signed=width > 1) for x in values)
         for given in (packed, bytearray(packed), memoryview(packed), array(code, values), values, tuple(values)):
             same_clip(f"{bits} bits from {type(given).__name__}", pcm(48000, given, bits), [floats])
-            same_clip(f"{bits} bits from {type(given).__name__}, interleaved", pcm(48000, given, bits, channels=2, onset=3), [floats[::2], floats[1::2]], onset=3)
+            made = pcm(48000, given, bits, channels=2, onset=3)
+            same_clip(f"{bits} bits from {type(given).__name__}, interleaved", made, [floats[::2], floats[1::2]], onset=3)
         names(f"{bits} bits, not whole", ValueError, "whole", pcm, 48000, packed + b"\0", bits, 2)
         for bad in (low - 1, high + 1):
             names(f"{bad} in {bits} bits", ValueError, f"samples of {bits} bits are {low} to {high}", pcm, 48000, [0, bad], bits)
@@ -1032,6 +1052,8 @@ def whole_kinds():
         for given in ([0.0], ["1"], [None], [True]):
             names(f"{bits} bits from {given!r}", TypeError, "Clip.from_pcm: data[0]", pcm, 48000, given, bits)
         check(f"{bits} bits of nothing", pcm(48000, b"", bits).frames == 0)
+    wide = memoryview(array("h", bytes(80))).cast("B").cast("h", [2, 20])
+    names("rows of whole numbers", ValueError, "other layout|one row a frame", pcm, 48000, wide, 16)
     names("24 bits in 32", ValueError, "24 bits are -8388608", pcm, 48000, array("i", [2**23]), 24)
     for bits in (0, 1, 12, 17, 33, 64, -16):
         names(f"{bits} bits", ValueError, "bits must be 8, 16, 24 or 32", pcm, 48000, b"", bits)
@@ -1061,7 +1083,8 @@ def numpy_kinds():
         names(f"numpy {kind}, three dimensions", TypeError, "two dimensions", clip, 48000, made[None])
         names(f"numpy {kind}, 20 frames as rows", ValueError, "other layout|Clip.from_frames", clip, 48000, numpy.zeros((20, 2), kind))
         names(f"numpy {kind}, a second as rows", netthimble.Refused, "48000 x 2|refused with 1: |Clip.from_frames", clip, 48000, numpy.zeros((48000, 2), kind))
-        names(f"numpy {kind}, a second as frames", netthimble.Refused, "2 x 48000|refused with 1: |Clip(sample_rate", frames, 48000, numpy.zeros((2, 48000), kind))
+        words = "2 x 48000|refused with 1: |Clip(sample_rate"
+        names(f"numpy {kind}, a second as frames", netthimble.Refused, words, frames, 48000, numpy.zeros((2, 48000), kind))
         for bad, word in ((1e39, "past f32's range"), (INF, "not finite"), (NAN, "not finite")):
             if bad != 1e39 or kind[-1] != "4":
                 made[1, 2] = bad
@@ -1147,7 +1170,9 @@ def nested():
     p.start()
     before = bytes(p._record)
     p._is_busy = True
-    for name, call in (("block", lambda: p.block(0.0)), ("preview", lambda: p.preview(0.0)), ("loop", lambda: p.set_loop(True)), ("stop", lambda: p.stop(1.0)), ("set_clip", lambda: p.set_clip(p.clip))):
+    calls = {"block": lambda: p.block(0.0), "preview": lambda: p.preview(0.0), "loop": lambda: p.set_loop(True)}
+    calls.update({"stop": lambda: p.stop(1.0), "set_clip": lambda: p.set_clip(p.clip)})
+    for name, call in calls.items():
         names(f"{name} within a call", RuntimeError, f"{name}: another call of this player", call)
         check(f"{name} within a call leaves the mark", p._is_busy)
     p._is_busy = False
@@ -1330,7 +1355,8 @@ def around():
     done = subprocess.run([sys.executable, "-B", "-c", "import netthimble"], stdout=subprocess.PIPE, stderr=subprocess.STDOUT, env=gone, cwd="/")
     check("import without the library", done.returncode != 0 and b"tools/build_library" in done.stdout, done.stdout.decode())
     with tempfile.TemporaryDirectory() as folder:
-        for call, size, words in (("player", 144, "are not those"), ("options", 16, "are not those"), ("player", 168, ""), ("options", 24, ""), (None, 0, "is older")):
+        sizes = ("player", 144, "are not those"), ("options", 16, "are not those"), ("player", 168, ""), ("options", 24, "")
+        for call, size, words in (*sizes, (None, 0, "is older")):
             check(f"import with {call} {size}", *imported(folder, call, size, words))
 
 

@@ -41,7 +41,8 @@ class Refused(ValueError):
     """A call was turned down, and changed nothing.
 
     `number` is that of the table of refusals (docs/REFERENCE.md, 'Refusals'), `words` what it says. `call` names the call, and
-    `argument` the value that was turned down, as it was given; None where no single one was. It can be pickled and copied."""
+    `argument` the value that was turned down, as it was given; None where no single one was. `hint` says what may have been meant, or is
+    None. It can be pickled and copied."""
 
     def __init__(self, call: str, number: int, argument: Optional[str] = None, hint: Optional[str] = None) -> None:
         super().__init__(call, number, argument, hint)

@@ -123,7 +123,8 @@ class Player:
         check("set_clip", refusal)
 
     def start(self, when: float = 0.0, offset: float = 0.0, duration: Optional[float] = None) -> None:
-        """Start at `when` seconds of the context, `offset` seconds into the clip, for `duration` seconds of it (None: all), once.
+        """Start at `when` seconds of the context, `offset` seconds into the clip, for `duration` seconds of it (None: all), once. A player that was
+        told to start, and has no clip at its next block, ends with that block.
         Refused: 9 (one is negative or not finite), 10 (a second start)."""
         given = {"when": when, "offset": offset, "duration": NEVER if duration is None else duration}
         values = [number("start", name, value) for name, value in given.items()]

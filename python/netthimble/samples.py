@@ -220,18 +220,18 @@ def frame_rows(call: str, name: str, given: Any) -> Rows:
             return [float_row(call, name, given)]
         if len(data.shape) != 2:
             raise TypeError(f"{call}: {name} must have one dimension or two, not {len(data.shape)}")
-        columns = data.shape[1]
+        count, columns = data.shape
     else:
         values = listed(call, name, given)
         if values and isinstance(values[0], numbers.Number):
             return [float_row(call, name, values)]
         frames = [frame if isinstance(frame, (list, tuple)) else listed(call, f"{name}[{at}]", frame) for at, frame in enumerate(values)]
-        columns = len(frames[0]) if frames else 0
+        count, columns = len(frames), len(frames[0]) if frames else 0
         for at, frame in enumerate(frames):
             if len(frame) != columns:
                 raise Refused(call, 1, f"{name}[{at}] of {len(frame)} channels, {name}[0] of {columns}")
     if columns > CHANNELS:
-        raise Refused(call, 1, f"{name} of {len(given)} x {columns}", FROM_ROWS[0].upper() + FROM_ROWS[1:])
+        raise Refused(call, 1, f"{name} of {count} x {columns}", FROM_ROWS[0].upper() + FROM_ROWS[1:])
     rows = data.columns() if data else list(zip(*frames))
     return [float_row(call, f"{name}[..][{at}]", row) for at, row in enumerate(rows)]
 
@@ -245,14 +245,15 @@ def pcm_rows(call: str, given: Any, bits: int, channels: Optional[int]) -> Rows:
     if data and len(data.shape) == 2:
         if channels is not None and channels != data.shape[1]:
             raise ValueError(f"{call}: data of {data.shape[0]} frames of {data.shape[1]} channels is not one of {channels} channels")
+        if 0 < data.shape[0] < data.shape[1]:
+            raise ValueError(f"{call}: data of {data.shape[0]} frames of {data.shape[1]} channels is likely the other layout: it is one row a frame here")
         channels = data.shape[1]
     elif data and len(data.shape) != 1:
         raise TypeError(f"{call}: data must have one dimension, or two, not {len(data.shape)}")
     if channels is None:
         channels = 1
     if not 1 <= channels <= CHANNELS:
-        hint = f"data is one row a frame: {len(given)} frames here" if data and len(data.shape) == 2 else None
-        raise Refused(call, 1, f"channels={channels}", hint)
+        raise Refused(call, 1, f"channels={channels}")
     floats = _pcm_floats(call, data, given, bits)
     if len(floats) % channels:
         raise ValueError(f"{call}: {len(floats)} samples are not whole frames of {channels} channels")
