@@ -105,14 +105,14 @@ noted l h (suc i) m k = go (ltb l (h.p + i)) refl (noted l h i m)
 -- ---- where the block ends
 -- with a wrap noted
 pub end_noted : (l : ℕ) (h : Head) → h.wrap ≡ true → h.p ≤ l → (at_end l h).p ≡ h.p % l
-end_noted l h w m = ap (λ (b : Bool). cond (b && eqb h.p l) 0 h.p) w ∙ go (eq-or-lt_of_le m)
+end_noted l h w m = ap (λ (b : Bool). (at_end l (at h.p b)).p) w ∙ go (eq-or-lt_of_le m)
   where
     other : {x y : ℕ} → x < y → x ≡ y → ⊥
     other m e = omega arith
 
-    go : (h.p ≡ l) ⊎ (h.p < l) → cond (eqb h.p l) 0 h.p ≡ h.p % l
-    go (inl e) = ap (λ (x : Bool). cond x 0 h.p) (eq-eqb h.p l e) ∙ sym (ap (λ (x : ℕ). x % l) e ∙ mod_self l)
-    go (inr s) = ap (λ (x : Bool). cond x 0 h.p) (ne_eqb h.p l (other s)) ∙ sym (mod-eq_of_lt s)
+    go : (h.p ≡ l) ⊎ (h.p < l) → (at_end l (at h.p true)).p ≡ h.p % l
+    go (inl e) = rw (eq-eqb h.p l e) (sym (ap (λ (x : ℕ). x % l) e ∙ mod_self l))
+    go (inr s) = rw (ne_eqb h.p l (other s)) (sym (mod-eq_of_lt s))
 
 pub end_below : (l : ℕ) (h : Head) → h.p ≤ l → (at_end l h).p ≤ l
 end_below l h m = go (h.wrap && eqb h.p l)
@@ -122,4 +122,4 @@ end_below l h m = go (h.wrap && eqb h.p l)
     go false = m
 
 pub end_plain : (l : ℕ) (h : Head) → h.wrap ≡ false → (at_end l h).p ≡ h.p
-end_plain l h e = ap (λ (b : Bool). cond (b && eqb h.p l) 0 h.p) e
+end_plain l h e = ap (λ (b : Bool). (at_end l (at h.p b)).p) e

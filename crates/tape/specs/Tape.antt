@@ -1,6 +1,8 @@
 -- The tape (docs/REFERENCE.md, 'The loop switch'): which frame of a clip each sample plays where the loop is switched between blocks. In whole numbers
--- alone: it knows nothing of floats, of the player or of the clock. l is the number of the clip's frames, n that of a block's samples. Definitions only.
-use Rattle.std.specs.Prelude.{Bool, true, false, not, ◌&&◌, cond, List, [], ◌∷◌, ℕ, zero, suc, eqb, ltb, get_or, Option, None, Some}
+-- alone: it knows nothing of floats, of the player or of the clock. l is the number of the clip's frames, n that of a block's samples. Definitions, and a
+-- few values of them by hand.
+use Rattle.std.proofs.Math.Path.{refl}
+use Rattle.std.specs.Prelude.{◌≡◌, Bool, true, false, not, ◌&&◌, cond, List, [], ◌∷◌, ℕ, zero, suc, eqb, ltb, get_or, Option, None, Some}
 
 -- where the tape stands: a number p, and whether a wrap is noted
 pub record Head : Type 0 where
@@ -28,6 +30,18 @@ head_at l looped h (suc i) = after_sample l looped (head_at l looped h i)
 -- at a block's end, where a wrap is noted and p is the clip's length, p becomes 0; and the note is cleared
 abbrev pub at_end : ℕ → Head → Head
 at_end l h = record { p = cond (h.wrap && eqb h.p l) 0 h.p; wrap = false }
+
+-- ---- by hand, a clip of 4 frames: looped, from p = 3 on the second sample wraps
+wraps_by_hand : head_at 4 true (record { p = 3; wrap = false }) 2 ≡ record { p = 1; wrap = true }
+unfolding head_at
+wraps_by_hand = refl
+
+-- at a block's end, p = 4 with a wrap noted becomes 0, and without one it stays
+noted_by_hand : at_end 4 (record { p = 4; wrap = true }) ≡ record { p = 0; wrap = false }
+noted_by_hand = refl
+
+plain_by_hand : at_end 4 (record { p = 4; wrap = false }) ≡ record { p = 4; wrap = false }
+plain_by_hand = refl
 
 -- ---- a list of blocks and loop messages: a step is one of them
 
