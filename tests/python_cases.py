@@ -1279,6 +1279,42 @@ def speed():
     folder.cleanup()
 
 
+def level(samples, hertz, rate):
+    """The level of a tone in samples, in decibels by full scale."""
+    turns = [2 * math.pi * hertz * i / rate for i in range(len(samples))]
+    parts = [math.fsum(x * wave_of(turn) for x, turn in zip(samples, turns)) for wave_of in (math.sin, math.cos)]
+    return 20 * math.log10(max(2 * math.hypot(*parts) / len(samples), 1e-9))
+
+
+def figures():
+    """What docs/LIBRARY.md tells of conversions and of a clip file's limit."""
+    def plain(word):
+        return float(word.replace(",", ""))
+
+    page = (TOP / "docs/LIBRARY.md").read_text()
+    rows = re.findall(r"^\| ([0-9,]+) to ([0-9,]+) \| ([0-9,]+) Hz \| (.*?) \| ([0-9,]+) Hz, (.*?) dB \|$", page, re.MULTILINE)
+    for source, target, hertz, own, image, beside in rows:
+        rate, other, tone = plain(source), plain(target), plain(hertz)
+        clip = netthimble.Clip(rate, [[math.sin(2 * math.pi * tone * i / rate) for i in range(int(rate / 10))]])
+        player, heard = netthimble.Player(other), array("f")
+        player.set_clip(clip)
+        player.start()
+        while len(heard) < other / 10:
+            heard += player.block(len(heard) / other).samples[0]
+        for way, samples in (("converted", clip.convert(other).samples(0)), ("played", heard[: int(other / 10)])):
+            here, there = level(samples, tone, other), level(samples, plain(image), other)
+            near = abs(there - plain(beside)) < 0.1 and (own[0] != "-" or abs(here - plain(own[:-3])) < 0.05)
+            check(f"{tone} Hz from {rate} to {other}, {way}", near, (here, there))
+    check("the figures of conversions", len(rows) == 9, rows)
+    for channels, words in ((1, "one channel"), (2, "two channels")):
+        found = re.search(rf"^\| {words} \| ([0-9,]+) \| ([0-9.]+) s \| ([0-9.]+) s \|", page, re.MULTILINE)
+        most = int(plain(found[1]))
+        for rate, seconds in ((44100, found[2]), (48000, found[3])):
+            clip = netthimble.Clip(rate, [array("f", bytes(4 * most))] * channels)
+            check(f"{words} at {rate}", len(clip.to_bytes()) <= 65536 and int(clip.duration * 1000) == round(1000 * float(seconds)), clip.duration)
+        refuses(f"{words}, a frame more", 15, netthimble.Clip(48000, [array("f", bytes(4 * most + 4))] * channels).to_bytes)
+
+
 def typed():
     """The annotations, by mypy, where it is installed; and the mark that there are any."""
     check("py.typed", (TOP / "python/netthimble/py.typed").is_file())
@@ -1413,6 +1449,7 @@ def main():
     meter()
     around()
     speed()
+    figures()
     typed()
     versions()
     return check.ended()

@@ -20,7 +20,7 @@ WORDS = {
     11: "a stop before a start",
     12: "a clip of no frames",
     13: "a block's time that is not finite, negative, over 2^30, or not above the last accepted block's",
-    14: "a rate that is not finite, or a factor that is NaN or outside 2^-64..2^64",
+    14: "a playback rate that is not finite, or a factor that is NaN or outside 2^-64..2^64",
     15: "a clip file whose header, offsets or length differ from the layout; to be written, a clip of no frames or of a file over 65,536 bytes",
     16: "cents outside -12,000..12,000",
     17: "a clip's onset that is not below its frames",
