@@ -1,6 +1,7 @@
--- The statements' definitions beside players, clips and numbers that can be followed by hand (docs/REFERENCE.md, 'The long run', 'The loop switch',
--- 'Detune in cents', 'Conversion' and 'Near tests and tolerances'): each fact is one computation, and a definition that said something else would not
--- meet it. Others stand beside the definitions, in LongRun.antt and LoopSwitch.antt. Definitions only.
+-- The statements' definitions beside players, clips and numbers that can be followed by hand
+-- (docs/REFERENCE.md, 'The long run', 'The loop switch', 'Detune in cents', 'Conversion' and 'Near tests and tolerances'): each fact is one
+-- computation, and a definition that said something else would not meet it. Others stand beside the definitions, in LongRun.antt and
+-- LoopSwitch.antt. Definitions only.
 use Rattle.std.specs.Prelude.{◌≡◌, true, false, List, [], ◌∷◌, pos, negsuc, replicate, Float}
 use Rattle.std.specs.Float.{fin}
 use Rattle.seconds.specs.Seconds.{float_zero, one}
@@ -28,7 +29,8 @@ one_looped = clip 128 ∷ start ∷ switch true ∷ block_at 128 float_zero ∷ 
 -- 640 frames, after five blocks: the reported seconds lie a little below the clip's end, so that it has not ended
 abbrev pub five_plain : List Call
 five_plain =
-    clip 640 ∷ start ∷ block_at 640 float_zero ∷ block_at 640 tick ∷ block_at 640 tock ∷ block_at 640 third ∷ block_at 640 (fin false 1 (negsuc 5)) ∷ []
+    clip 640 ∷ start ∷ block_at 640 float_zero ∷ block_at 640 tick ∷ block_at 640 tock ∷ block_at 640 third
+    ∷ block_at 640 (fin false 1 (negsuc 5)) ∷ []
 
 -- 2, 5/4 and 1/2
 abbrev pub two : Float
@@ -42,8 +44,10 @@ half = fin false 1 (negsuc 0)
 
 pub record ByHand : Type 0 where
   -- the long run: the bits of two blocks, and where the player stands
-  pub looped_bits : (options : PlayerOptions) → all_heard (playing (accepted (fresh_with rate options) looped_calls)) ≡ said true 0 ∷ said true 1 ∷ []
-  pub plain_bits : (options : PlayerOptions) → all_heard (playing (accepted (fresh_with rate options) plain_calls)) ≡ said false 0 ∷ said false 1 ∷ []
+  pub looped_bits : (options : PlayerOptions)
+      → all_heard (playing (accepted (fresh_with rate options) looped_calls)) ≡ said true 0 ∷ said true 1 ∷ []
+  pub plain_bits : (options : PlayerOptions)
+      → all_heard (playing (accepted (fresh_with rate options) plain_calls)) ≡ said false 0 ∷ said false 1 ∷ []
   pub looped_stands : (options : PlayerOptions) → Stands rate true 128 1 (after_calls options one_looped)
   pub plain_stands : (options : PlayerOptions) → Stands rate false 640 5 (after_calls options five_plain)
   pub plain_goes_on : (options : PlayerOptions) → is_ended (after_calls options five_plain) ≡ false

@@ -1,4 +1,5 @@
--- Lists of calls on one fresh player, and what each accepted one gave (docs/REFERENCE.md, 'Player and messages' and 'The long run'). Definitions only.
+-- Lists of calls on one fresh player, and what each accepted one gave (docs/REFERENCE.md, 'Player and messages' and 'The long run').
+-- Definitions only.
 use Rattle.std.specs.Prelude.{Bool, true, false, ◌&&◌, cond, List, [], ◌∷◌, ◌++◌, ℕ, ◌+◌, ◌*◌, length, get_or, Float}
 use Rattle.std.specs.Float.{binary32, binary64}
 use Rattle.std.specs.Float.Ieee.{fits}
@@ -15,7 +16,8 @@ use Rattle.player.specs.declared.BlockReport.{BlockReport}
 use Rattle.buffer.specs.declared.refusals.Refusal.{Refusal}
 use Rattle.std.specs.Prelude.{Result}
 
--- A call with all that is handed in: `buffer` has channels, frames, rate and samples; `block` has the output, the samples, time, rate and factor.
+-- A call with all that is handed in: `buffer` has channels, frames, rate and samples; `block` has the output, the samples, time, rate and
+-- factor.
 pub data Call : Type 0 where
   buffer : ℕ → ℕ → Float → List ℕ → Call
   message : ControlMessage → Call

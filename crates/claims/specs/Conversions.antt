@@ -1,5 +1,5 @@
--- Conversion by a real change keeps time (docs/REFERENCE.md, 'Conversion'): converted clips lie over the originals at the same instants. Definitions
--- only.
+-- Conversion by a real change keeps time (docs/REFERENCE.md, 'Conversion'): converted clips lie over the originals at the same instants.
+-- Definitions only.
 use Rattle.std.specs.Prelude.{◌≡◌, ℕ, ◌+◌, ◌-◌, ◌*◌, ◌^◌, ◌<◌, true, false, T, from_bits, min, List, length, slice_index, Float, Ok}
 use Rattle.std.specs.Float.{binary32}
 use Rattle.std.specs.Float.Ieee.{fits, eq}
@@ -32,8 +32,8 @@ pub record Converts (t : Tolerances) (shape : Shape) (len : ℕ) (rate : Float) 
   pub accepted : converted_shape_with t shape len rate ≡ Ok made
   pub changes : relabels_with t shape rate ≡ false
 
--- Frame i of the result lies at the instant i / target, which is i × source / target frames of the source. Where it is read, `playhead`, is p times
--- 2 ^ -1074 frames; the rates are s and t times 2 ^ -149: the smallest f64 and the smallest f32.
+-- Frame i of the result lies at the instant i / target, which is i × source / target frames of the source. Where it is read, `playhead`, is
+-- p times 2 ^ -1074 frames; the rates are s and t times 2 ^ -149: the smallest f64 and the smallest f32.
 pub record SameInstant (source target : Float) (i : ℕ) : Type 0 where
   pub p : ℕ
   pub s : ℕ
@@ -50,8 +50,8 @@ pub record SameInstant (source target : Float) (i : ℕ) : Type 0 where
 abbrev pub frame_at : List ℕ → ℕ → ℕ → ℕ → ℕ
 frame_at samples n c i = slice_index (channel samples n c) i
 
--- To m times the rate: m times the frames, and in each channel frame m × j of the result has the value of the source's frame j (a zero's sign may differ),
--- where that frame and the next (or last) are finite.
+-- To m times the rate: m times the frames, and in each channel frame m × j of the result has the value of the source's frame j (a zero's
+-- sign may differ), where that frame and the next (or last) are finite.
 pub record KeepsFrames (t : Tolerances) (shape : Shape) (len : ℕ) (rate : Float) (made : Shape) (m : ℕ) : Type 0 where
   pub times : made.frames ≡ m * shape.frames
   pub kept : (samples : List ℕ) (c j : ℕ) → length samples ≡ len → c < shape.channels → j < shape.frames
@@ -61,9 +61,11 @@ pub record KeepsFrames (t : Tolerances) (shape : Shape) (len : ℕ) (rate : Floa
 
 -- ---- the claim, whatever tolerances are handed; `single n` is the whole number n as f32, and `mono` the shape of one channel
 pub record KeepsTime : Type 0 where
-  pub instants : (t : Tolerances) (shape : Shape) (len : ℕ) (rate : Float) (made : Shape) → Converts t shape len rate made → (i : ℕ) → i < made.frames
+  pub instants : (t : Tolerances) (shape : Shape) (len : ℕ) (rate : Float) (made : Shape) → Converts t shape len rate made → (i : ℕ)
+      → i < made.frames
       → SameInstant shape.rate rate i
-  pub multiples : (t : Tolerances) (shape : Shape) (len : ℕ) (rate : Float) (made : Shape) → Converts t shape len rate made → (s m : ℕ) → shape.rate ≡ single s
+  pub multiples : (t : Tolerances) (shape : Shape) (len : ℕ) (rate : Float) (made : Shape) → Converts t shape len rate made → (s m : ℕ)
+      → shape.rate ≡ single s
       → rate ≡ single (m * s) → KeepsFrames t shape len rate made m
   -- conversions that meet the premises: 2 frames at 24,000 make 4 at 48,000, and 3 at 48,000 make 2 at 32,000
   pub up : Converts defaults (mono 2 24000) 2 (single 48000) (mono 4 48000)

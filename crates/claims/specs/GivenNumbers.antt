@@ -1,7 +1,8 @@
--- A block and a conversion with three numbers in the place of the tolerances (docs/REFERENCE.md, 'Near tests and tolerances'): `close` for near,
--- `small` for near zero, and `apart` for the distance within which a conversion only relabels. Every definition that has a near test, or that calls
--- one that has, stands here once more, word for word but for the numbers: `Receives`, in Tolerances.antt, says that a player's own tolerances reach each of
--- its near tests, and only those. What isn't written out again has no near test and calls nothing that has one. Definitions only.
+-- A block and a conversion with three numbers in the place of the tolerances (docs/REFERENCE.md, 'Near tests and tolerances'): `close` for
+-- near, `small` for near zero, and `apart` for the distance within which a conversion only relabels. Every definition that has a near test,
+-- or that calls one that has, stands here once more, word for word but for the numbers: `Receives`, in Tolerances.antt, says that a
+-- player's own tolerances reach each of its near tests, and only those. What isn't written out again has no near test and calls nothing
+-- that has one. Definitions only.
 use Rattle.std.specs.Prelude.{Bool, true, false, not, ◌&&◌, ◌||◌, cond, List, ℕ, zero, suc, ◌+◌, ◌-◌, ◌==◌, eqb, ltb, nat_lt, get_or, length, Float, Option, None, Some, Result, Ok, Err}
 use Rattle.std.specs.Float.{binary64}
 use Rattle.std.specs.Float.Ieee.{of_bits, sub, mul, le, ne}
@@ -142,7 +143,8 @@ module _ (close small apart : Float) where
   unfoldable pub relabels : Shape → Float → Bool
   relabels shape rate = float_eq shape.rate rate apart || shape.frames == 0
 
-  -- the refusals by 1 and 2 for a buffer of `len` samples and a new rate; then a relabelled shape, or the refusal by 7 and the result's shape
+  -- the refusals by 1 and 2 for a buffer of `len` samples and a new rate; then a relabelled shape, or the refusal by 7 and the result's
+  -- shape
   unfoldable pub converted_shape : Shape → ℕ → Float → Result Shape Refusal
   converted_shape shape len rate =
       cond (not (valid_shape shape.channels shape.frames len)) (Err refused.Shape)

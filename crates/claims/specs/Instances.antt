@@ -1,5 +1,5 @@
--- Lists of calls that meet the premises of the statement about the long run (docs/REFERENCE.md, 'The long run'): looped, unlooped, and with a stop, at a
--- block's start, at a block's end, and within a block; one with blocks in cents, and one with previews. Definitions only.
+-- Lists of calls that meet the premises of the statement about the long run (docs/REFERENCE.md, 'The long run'): looped, unlooped, and with
+-- a stop, at a block's start, at a block's end, and within a block; one with blocks in cents, and one with previews. Definitions only.
 use Rattle.std.specs.Prelude.{◌≡◌, Bool, true, false, List, [], ◌∷◌, ◌++◌, ℕ, ◌+◌, T, ℤ, pos, negsuc, length, map, take, replicate, Float}
 use Rattle.std.specs.Float.{fin, binary32}
 use Rattle.std.specs.Float.Ieee.{fits}
@@ -42,7 +42,9 @@ tock = fin false 1 (negsuc 6)
 
 -- refused calls are strewn in: a stop before the start, a second start, a second clip, a block at the last block's time
 abbrev pub looped_calls : List Call
-looped_calls = message (Stop float_zero) ∷ clip ∷ start ∷ start ∷ message (Loop true) ∷ clip ∷ block_at float_zero ∷ block_at float_zero ∷ block_at tick ∷ []
+looped_calls =
+    message (Stop float_zero) ∷ clip ∷ start ∷ start ∷ message (Loop true) ∷ clip ∷ block_at float_zero ∷ block_at float_zero
+    ∷ block_at tick ∷ []
 
 abbrev pub plain_calls : List Call
 plain_calls = start ∷ clip ∷ block_at float_zero ∷ block_at tick ∷ []
@@ -87,11 +89,12 @@ all_ended es = map (λ e. is_ended (after e)) es
 abbrev pub cents_at : Float → ℤ → LongerCall
 cents_at time cents = in_cents (replicate 4096 7) frames time one cents
 
--- Of its blocks in cents two are accepted, and two are refused, so left out: by 16 for 12,001 cents, and by 13 at the last block's time. The plain block
--- at that time is refused too, and stays.
+-- Of its blocks in cents two are accepted, and two are refused, so left out: by 16 for 12,001 cents, and by 13 at the last block's time.
+-- The plain block at that time is refused too, and stays.
 abbrev pub longer_calls : List LongerCall
 longer_calls =
-    plain start ∷ plain clip ∷ plain (message (Loop true)) ∷ cents_at float_zero (pos 0) ∷ cents_at tick (pos 12001) ∷ cents_at float_zero (pos 0)
+    plain start ∷ plain clip ∷ plain (message (Loop true)) ∷ cents_at float_zero (pos 0) ∷ cents_at tick (pos 12001)
+    ∷ cents_at float_zero (pos 0)
     ∷ plain (block_at float_zero) ∷ cents_at tick (pos 0) ∷ []
 
 -- previews, of a block and of one in cents, lent a second output of as many words; and one lent too short an output
@@ -104,11 +107,12 @@ look_in_cents time cents = preview_in_cents (replicate 4096 9) frames time one c
 abbrev pub short_look : Float → LongerCall
 short_look time = preview (replicate 128 9) frames time one one
 
--- previews at every place: before the clip and the start, before a block and after it at its time (refused by 13), with 12,001 cents (16), with a short
--- output (8). All seven are left out.
+-- previews at every place: before the clip and the start, before a block and after it at its time (refused by 13), with 12,001 cents (16),
+-- with a short output (8). All seven are left out.
 abbrev pub previewed_calls : List LongerCall
 previewed_calls =
-    look_at float_zero ∷ plain start ∷ plain clip ∷ look_in_cents float_zero (pos 50) ∷ plain (block_at float_zero) ∷ look_at float_zero ∷ look_at tick ∷ look_in_cents tick (pos 12001)
+    look_at float_zero ∷ plain start ∷ plain clip ∷ look_in_cents float_zero (pos 50) ∷ plain (block_at float_zero) ∷ look_at float_zero
+    ∷ look_at tick ∷ look_in_cents tick (pos 12001)
     ∷ short_look tick ∷ cents_at tick (pos 0) ∷ look_at tock ∷ []
 
 -- previews alone, as they may stand between a preview and the block that it shows
@@ -129,22 +133,24 @@ pub record MetLonger (options : PlayerOptions) (calls : List LongerCall) (left b
   pub left_out : length calls ≡ left + length (replaced (fresh_with rate options) calls)
   pub met : Met options (replaced (fresh_with rate options) calls) blocks
 
--- the premises of the claim about previews are met: previews alone, two outputs of one length that held other words, and refused previews, by 8 and 16
+-- the premises of the claim about previews are met: previews alone, two outputs of one length that held other words, and refused previews,
+-- by 8 and 16
 pub record MetPreviews (options : PlayerOptions) : Type 0 where
   pub between : unlooked between_calls ≡ []
   pub lengths : length {A = ℕ} (replicate 4096 9) ≡ length {A = ℕ} (replicate 4096 7)
   pub short : previewed 128 (fresh_with rate options) 128 3 float_zero one one ≡ Err refused.Length
   pub far : previewed_cents 128 (fresh_with rate options) 4096 3 float_zero one (pos 12001) ≡ Err refused.Cents
 
--- The premises of what is said of a block that ends exactly at the stop are met, by the first of two; all of its samples play, and it ends the player.
+-- The premises of what is said of a block that ends exactly at the stop are met, by the first of two; all of its samples play, and it ends
+-- the player.
 pub record MetAtStop (options : PlayerOptions) : Type 0 where
   pub met : Met options (stop_calls first_end) 2
   pub at : ends_at first_end (playing (accepted (fresh_with rate options) (stop_calls first_end))) ≡ true ∷ false ∷ []
   pub plays : all_heard (playing (accepted (fresh_with rate options) (stop_calls first_end))) ≡ said true 0 ∷ replicate 128 0 ∷ []
   pub ended : all_ended (playing (accepted (fresh_with rate options) (stop_calls first_end))) ≡ true ∷ true ∷ []
 
--- Where the stop lies within the first block, no block ends at it, and that one reaches it and ends the player. Its samples from number 94 on have
--- instants at or after the stop.
+-- Where the stop lies within the first block, no block ends at it, and that one reaches it and ends the player. Its samples from number 94
+-- on have instants at or after the stop.
 pub record MetWithin (options : PlayerOptions) : Type 0 where
   pub met : Met options (stop_calls within) 2
   pub at : ends_at within (playing (accepted (fresh_with rate options) (stop_calls within))) ≡ false ∷ false ∷ []

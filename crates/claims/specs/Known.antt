@@ -14,7 +14,7 @@ use Rattle.player.specs.declared.Player.{Player}
 use Rattle.player.specs.declared.ControlMessage.TheVariants.{Start, Loop}
 use Rattle.claims.specs.Calls.{buffer, message, next, is_ended}
 
--- ---- loop points in a clip of one second: an end at or below 0, or above 1, becomes 1; a start below 0 becomes 0, and one above 1 becomes 1
+-- ---- loop points in a clip of one second: an end at or below 0, or above 1, becomes 1; a start is brought into 0 to 1
 abbrev minus_one : Float
 minus_one = fin true 1 (pos 0)
 
@@ -38,7 +38,8 @@ words l = table l (λ i. i + 1)
 
 -- the player with a clip of l frames, started at 0, the loop as it says
 abbrev pub begun : Bool → ℕ → Player
-begun looped l = next (next (next (fresh rate) (buffer 1 l rate (words l))) (message (Start float_zero float_zero never))) (message (Loop looped))
+begun looped l =
+    next (next (next (fresh rate) (buffer 1 l rate (words l))) (message (Start float_zero float_zero never))) (message (Loop looped))
 
 -- the player after its first block, and sample 0 of block 1, which begins where block 0 ends
 abbrev pub after : Bool → ℕ → Player
@@ -47,7 +48,8 @@ after looped l = (plan 128 (begun looped l) float_zero one one).player
 abbrev pub sample_of_block_one : Bool → ℕ → ℕ
 sample_of_block_one looped l = (plan 128 (after looped l) (block_end 128 float_zero rate) one one).sample (words l) 0
 
--- looped, block 1 starts on frame 2 of a clip of 3 frames, and on frame 0 of one of 128; unlooped, a clip of 128 frames has ended after one block
+-- looped, block 1 starts on frame 2 of a clip of 3 frames, and on frame 0 of one of 128; unlooped, a clip of 128 frames has ended after one
+-- block
 unfoldable pub KnownPlayback : Type 0
 KnownPlayback = (sample_of_block_one true 3 ≡ 2 + 1) × (sample_of_block_one true 128 ≡ 0 + 1) × (is_ended (after false 128) ≡ true)
 

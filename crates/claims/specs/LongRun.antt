@@ -67,7 +67,8 @@ reaches x (stop ∷ rest) = le stop x
 
 -- ---- the conclusions
 
--- The bits of sample i of block b in channel c, n samples a block: frame (n × b + i) mod L looped; frame n × b + i below L, else zero, unlooped.
+-- The bits of sample i of block b in channel c, n samples a block: frame (n × b + i) mod L looped; frame n × b + i below L, else zero,
+-- unlooped.
 unfoldable pub frame_bits : ℕ → Bool → Clip → ℕ → ℕ → ℕ → ℕ
 frame_bits n looped clip b i c =
     let l = clip.frames in
@@ -99,8 +100,8 @@ plain_by_hand : table 4 (λ i. frame_bits 4 false three 0 i 0) ≡ 1 ∷ 2 ∷ 3
 unfolding frame_bits table
 plain_by_hand = refl
 
--- looped, the exact positions of a clip as long as a block are its end and its start in turn; a longer clip's is its end where the remainder is 0, and a
--- shorter one's is its start
+-- looped, the exact positions of a clip as long as a block are its end and its start in turn; a longer clip's is its end where the
+-- remainder is 0, and a shorter one's is its start
 positions_by_hand : table 3 (exact_frames 4 true 4) ≡ 0 ∷ 4 ∷ 0 ∷ []
 unfolding exact_frames table
 positions_by_hand = refl

@@ -1,5 +1,5 @@
--- Lists in which blocks in cents and previews stand beside the other calls (docs/REFERENCE.md, 'Detune in cents' and 'Preview'). Definitions only.
--- A longer list is brought, call by call, to a list of the calls that the statement about the long run speaks of.
+-- Lists in which blocks in cents and previews stand beside the other calls (docs/REFERENCE.md, 'Detune in cents' and 'Preview').
+-- Definitions only. A longer list is brought, call by call, to a list of the calls that the statement about the long run speaks of.
 use Rattle.std.specs.Prelude.{◌≡◌, Bool, true, false, not, ◌&&◌, cond, List, [], ◌∷◌, ℕ, ◌+◌, ◌*◌, ◌<◌, T, ℤ, pos, length, get_or, Float}
 use Rattle.std.specs.Float.{binary32, binary64}
 use Rattle.std.specs.Float.Ieee.{fits}
@@ -24,8 +24,8 @@ use Rattle.claims.specs.Calls.{Call, buffer, message, block, typed, channels_or,
 use Rattle.claims.specs.LongRun.{Premises, Holds}
 use Rattle.claims.specs.LoopSwitch.{SwitchPremises, Switched}
 
--- A call of the long run's statement; or a block in cents with all that is handed in: the output, the samples, time, rate and cents; or a preview of a
--- block, its output being the second one, with a factor or in cents.
+-- A call of the long run's statement; or a block in cents with all that is handed in: the output, the samples, time, rate and cents; or a
+-- preview of a block, its output being the second one, with a factor or in cents.
 pub data LongerCall : Type 0 where
   plain : Call → LongerCall
   in_cents : List ℕ → List ℕ → Float → Float → ℤ → LongerCall
@@ -43,7 +43,8 @@ abbrev pub all_typed_longer : List LongerCall → Bool
 all_typed_longer [] = true
 all_typed_longer (c ∷ cs) = typed_longer c && all_typed_longer cs
 
--- ---- what a call gave: its answer, the player that it leaves, and the output as it then stands (a message and a buffer call are lent none)
+-- ---- what a call gave: its answer, the player that it leaves, and the output as it then stands (a message and a buffer call are lent
+-- none)
 pub data Given : Type 0 where
   told : Answer Player → Given
   played : Answer BlockReport → Given
@@ -115,8 +116,10 @@ pub record InCents : Type 0 where
   -- the list so replaced gives the same answers, players and outputs
   pub same : (p : Player) (calls : List LongerCall) → outcomes p (replaced p calls) ≡ kept p calls
   -- a block in cents that is left out changes neither the player nor the output
-  pub unmoved : (p : Player) (out samples : List ℕ) (time rate : Float) (cents : ℤ) → is_left_out p (in_cents out samples time rate cents) ≡ true
-      → ((outcome_longer p (in_cents out samples time rate cents)).player ≡ p) × ((outcome_longer p (in_cents out samples time rate cents)).output ≡ out)
+  pub unmoved : (p : Player) (out samples : List ℕ) (time rate : Float) (cents : ℤ)
+      → is_left_out p (in_cents out samples time rate cents) ≡ true
+      → ((outcome_longer p (in_cents out samples time rate cents)).player ≡ p)
+      × ((outcome_longer p (in_cents out samples time rate cents)).output ≡ out)
   -- a block at 0 cents is the block with factor 1, so that it stays aligned
   pub at_zero : (p : Player) (out samples : List ℕ) (time rate : Float)
       → outcome_longer p (in_cents out samples time rate (pos 0)) ≡ outcome p (block out samples time rate one)
@@ -172,7 +175,8 @@ looked_at (looked a) = looked a
 abbrev pub shown_by : Player → Outcome → Outcome
 shown_by p o = record { answer = looked_at o.answer; player = p; output = o.output }
 
--- a preview and a block that show and give the same, into outputs that held whatever they held: in the answer, and in every sample of the answered channels
+-- a preview and a block that show and give the same, into outputs that held whatever they held: in the answer, and in every sample of the
+-- answered channels
 abbrev pub channels_in : Given → ℕ
 channels_in (told a) = 0
 channels_in (played a) = channels_or a
@@ -180,24 +184,30 @@ channels_in (looked a) = 0
 
 pub record SameBlock (shows gives : Outcome) : Type 0 where
   pub answer : shows.answer ≡ looked_at gives.answer
-  pub samples : (c i : ℕ) → c < channels_in gives.answer → i < 128 → get_or shows.output (128 * c + i) 0 ≡ get_or gives.output (128 * c + i) 0
+  pub samples : (c i : ℕ) → c < channels_in gives.answer → i < 128
+      → get_or shows.output (128 * c + i) 0 ≡ get_or gives.output (128 * c + i) 0
 
 -- ---- the claim about previews
 pub record Previews : Type 0 where
-  -- with previews strewn in at any places, accepted or refused, every other call's answer, player and output are those of the list without them
+  -- with previews strewn in at any places, accepted or refused, every other call's answer, player and output are those of the list without
+  -- them
   pub unseen : (p : Player) (calls : List LongerCall) → others p calls ≡ outcomes_longer p (unlooked calls)
   -- and so is the player that the list leaves
   pub leaves : (p : Player) (calls : List LongerCall) → left p calls ≡ left p (unlooked calls)
   -- what a preview shows is what the next block call with the same arguments gives, whatever previews stand between
   pub foretold : (p : Player) (between : List LongerCall) → unlooked between ≡ [] → (out samples : List ℕ) (time rate factor : Float)
       → outcome_longer p (preview out samples time rate factor) ≡ shown_by p (outcome (left p between) (block out samples time rate factor))
-  pub foretold_in_cents : (p : Player) (between : List LongerCall) → unlooked between ≡ [] → (out samples : List ℕ) (time rate : Float) (cents : ℤ)
-      → outcome_longer p (preview_in_cents out samples time rate cents) ≡ shown_by p (outcome_longer (left p between) (in_cents out samples time rate cents))
+  pub foretold_in_cents : (p : Player) (between : List LongerCall) → unlooked between ≡ []
+      → (out samples : List ℕ) (time rate : Float) (cents : ℤ)
+      → outcome_longer p (preview_in_cents out samples time rate cents)
+      ≡ shown_by p (outcome_longer (left p between) (in_cents out samples time rate cents))
   -- and that whatever the second output and the block's held before, if they are of one length
-  pub any_output : (p : Player) (between : List LongerCall) → unlooked between ≡ [] → (second out samples : List ℕ) → length second ≡ length out
+  pub any_output : (p : Player) (between : List LongerCall) → unlooked between ≡ [] → (second out samples : List ℕ)
+      → length second ≡ length out
       → (time rate factor : Float)
       → SameBlock (outcome_longer p (preview second samples time rate factor)) (outcome (left p between) (block out samples time rate factor))
-  pub any_output_in_cents : (p : Player) (between : List LongerCall) → unlooked between ≡ [] → (second out samples : List ℕ) → length second ≡ length out
+  pub any_output_in_cents : (p : Player) (between : List LongerCall) → unlooked between ≡ [] → (second out samples : List ℕ)
+      → length second ≡ length out
       → (time rate : Float) (cents : ℤ)
       → SameBlock (outcome_longer p (preview_in_cents second samples time rate cents)) (outcome_longer (left p between) (in_cents out samples time rate cents))
   -- a refused preview leaves the second output as it was
@@ -207,5 +217,6 @@ pub record Previews : Type 0 where
   pub unwritten_in_cents : (p : Player) (second samples : List ℕ) (time rate : Float) (cents : ℤ) (refused : Refusal)
       → previewed_cents 128 p (length second) (length samples) time rate cents ≡ Err refused
       → (outcome_longer p (preview_in_cents second samples time rate cents)).output ≡ second
-  -- the list of calls that a longer list is brought to (`replaced`, whose claims are those of `InCents`) is the one of the list without its previews
+  -- the list of calls that a longer list is brought to (`replaced`, whose claims are those of `InCents`) is the one of the list without its
+  -- previews
   pub replaced_same : (p : Player) (calls : List LongerCall) → replaced p calls ≡ replaced p (unlooked calls)

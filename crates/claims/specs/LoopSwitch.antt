@@ -1,6 +1,6 @@
--- The loop switched during playback (docs/REFERENCE.md, 'The loop switch'): one claim about one list of calls, refused ones included. What the tape is
--- without a switch during playback, which is the rule of the long run (LongRun.antt), stands at the end. Definitions, and a tape
--- by hand.
+-- The loop switched during playback (docs/REFERENCE.md, 'The loop switch'): one claim about one list of calls, refused ones included. What
+-- the tape is without a switch during playback, which is the rule of the long run (LongRun.antt), stands at the end. Definitions, and a
+-- tape by hand.
 use Rattle.std.specs.Prelude.{◌≡◌, Bool, true, false, not, ◌&&◌, cond, List, [], ◌∷◌, ◌++◌, ℕ, ◌*◌, ◌<◌, ltb, T, replicate, Float}
 use Rattle.std.specs.Float.{binary32}
 use Rattle.std.specs.Float.Ieee.{fits, eq}
@@ -78,23 +78,25 @@ pub record SwitchPremises (rate : Float) (es : List Event) : Type 0 where
 
 -- ---- the conclusions
 
--- The player at one moment, and the tape t: an unlooped block that finished with p above L has ended it, and nothing earlier does except an exact fit;
--- until the end the position is within 1/1024 frame of p.
+-- The player at one moment, and the tape t: an unlooped block that finished with p above L has ended it, and nothing earlier does except an
+-- exact fit; until the end the position is within 1/1024 frame of p.
 pub record Beside (rate : Float) (t : Tape) (p : Player) : Type 0 where
   pub has_ended : t.ended ≡ true → is_ended p ≡ true
   pub not_before : t.ended ≡ false → t.exact_fit ≡ false → is_ended p ≡ false
   pub position : is_ended p ≡ false → Reports rate p.render_state.buffer_time.0 t.head.p
 
--- Accepted block e, before which the tape is t: in every answered channel the tape's bits; and where the last block was an exact fit, this one has ended
--- the player.
+-- Accepted block e, before which the tape is t: in every answered channel the tape's bits; and where the last block was an exact fit, this
+-- one has ended the player.
 pub record Follows (clip : Clip) (t : Tape) (e : Event) : Type 0 where
   pub channels : channels_of e ≡ cond (is_ended e.before) 1 clip.channels
-  pub plays : (c i : ℕ) → c < channels_of e → i < 128 → sample_of e c i ≡ bits_of (channel clip.samples clip.frames c) (frame_at clip.frames t i)
+  pub plays : (c i : ℕ) → c < channels_of e → i < 128
+      → sample_of e c i ≡ bits_of (channel clip.samples clip.frames c) (frame_at clip.frames t i)
   pub after_fit : t.exact_fit ≡ true → is_ended (after e) ≡ true
 
 pub record Switched (rate : Float) (options : PlayerOptions) (es : List Event) (clip : Clip) : Type 0 where
   -- after every front part of the list
-  pub beside : (front back : List Event) → es ≡ front ++ back → Beside rate (tape_after clip.frames front) (after_all (fresh_with rate options) front)
+  pub beside : (front back : List Event) → es ≡ front ++ back
+      → Beside rate (tape_after clip.frames front) (after_all (fresh_with rate options) front)
   -- every block
   pub follows : (front : List Event) (e : Event) (back : List Event) → es ≡ front ++ (e ∷ back) → is_block_call e.call ≡ true
       → Follows clip (tape_after clip.frames front) e
@@ -108,7 +110,8 @@ unswitched n l looped k = stepped_all n l tape.fresh (loop_is looped ∷ replica
 
 pub record NoSwitch (n : ℕ) (looped : Bool) (clip : Clip) (k : ℕ) : Type 0 where
   pub bits : (i c : ℕ)
-      → bits_of (channel clip.samples clip.frames c) (frame_at clip.frames (unswitched n clip.frames looped k) i) ≡ frame_bits n looped clip k i c
+      → bits_of (channel clip.samples clip.frames c) (frame_at clip.frames (unswitched n clip.frames looped k) i)
+      ≡ frame_bits n looped clip k i c
   pub position : (unswitched n clip.frames looped k).ended ≡ false
       → (unswitched n clip.frames looped k).head.p ≡ exact_frames n looped clip.frames k
   -- unlooped it ends with the first block that goes past frame L
@@ -117,10 +120,13 @@ pub record NoSwitch (n : ℕ) (looped : Bool) (clip : Clip) (k : ℕ) : Type 0 w
 -- ---- the claim
 pub record LoopSwitch : Type 0 where
   -- for every output rate that a player can be made for, whatever tolerances it is made with, and every list of calls on that fresh player
-  pub switched : (rate : Float) (options : PlayerOptions) → T (fits binary32 rate) → T (valid_rate rate) → (calls : List Call) → T (all_typed calls)
-      → (h : SwitchPremises rate (accepted (fresh_with rate options) calls)) → Switched rate options (accepted (fresh_with rate options) calls) h.clip
+  pub switched : (rate : Float) (options : PlayerOptions) → T (fits binary32 rate) → T (valid_rate rate) → (calls : List Call)
+      → T (all_typed calls)
+      → (h : SwitchPremises rate (accepted (fresh_with rate options) calls))
+      → Switched rate options (accepted (fresh_with rate options) calls) h.clip
   -- every list of the long run without a stop is one of these lists
   pub older : (rate : Float) (options : PlayerOptions) (calls : List Call) → Premises rate (accepted (fresh_with rate options) calls)
-      → gathered stop_in (opening (accepted (fresh_with rate options) calls)) ≡ [] → SwitchPremises rate (accepted (fresh_with rate options) calls)
+      → gathered stop_in (opening (accepted (fresh_with rate options) calls)) ≡ []
+      → SwitchPremises rate (accepted (fresh_with rate options) calls)
   -- and the frames and positions that the long run's statement names are the tape's
   pub same_rule : (n : ℕ) (looped : Bool) (clip : Clip) (k : ℕ) → 0 < n → 0 < clip.frames → NoSwitch n looped clip k

@@ -1,5 +1,5 @@
--- Lists of calls that meet the premises of the statement about the loop switched during playback (docs/REFERENCE.md, 'The loop switch'). Definitions
--- only.
+-- Lists of calls that meet the premises of the statement about the loop switched during playback (docs/REFERENCE.md, 'The loop switch').
+-- Definitions only.
 use Rattle.std.specs.Prelude.{◌≡◌, Bool, true, false, List, [], ◌∷◌, ℕ, T, negsuc, length, replicate, Float}
 use Rattle.std.specs.Float.{fin, binary32}
 use Rattle.std.specs.Float.Ieee.{fits}
@@ -33,12 +33,15 @@ third = fin false 3 (negsuc 7)
 -- 600 frames: on and off twice within the clip. A block at the last one's time and a second clip are refused.
 abbrev pub within_calls : List Call
 within_calls =
-    start ∷ clip 600 ∷ switch true ∷ block_at 600 float_zero ∷ switch false ∷ block_at 600 float_zero ∷ block_at 600 tick ∷ switch true ∷ clip 600
+    start ∷ clip 600 ∷ switch true ∷ block_at 600 float_zero ∷ switch false ∷ block_at 600 float_zero ∷ block_at 600 tick ∷ switch true
+    ∷ clip 600
     ∷ block_at 600 tock ∷ switch false ∷ block_at 600 third ∷ []
 
 -- 192 frames: off after a wrap in the second block, p = 64. The third is an exact fit, so the fourth ends it.
 abbrev pub wrapped_calls : List Call
-wrapped_calls = clip 192 ∷ start ∷ switch true ∷ block_at 192 float_zero ∷ block_at 192 tick ∷ switch false ∷ block_at 192 tock ∷ block_at 192 third ∷ []
+wrapped_calls =
+    clip 192 ∷ start ∷ switch true ∷ block_at 192 float_zero ∷ block_at 192 tick ∷ switch false ∷ block_at 192 tock ∷ block_at 192 third
+    ∷ []
 
 -- 128 frames: an exact fit by the first block, unlooped, and a loop-off message before the next one
 abbrev pub fitting_calls : List Call
@@ -52,8 +55,8 @@ ended_calls = clip 100 ∷ start ∷ block_at 100 float_zero ∷ switch true ∷
 abbrev pub last_calls : List Call
 last_calls = clip 128 ∷ start ∷ block_at 128 float_zero ∷ switch true ∷ switch false ∷ switch true ∷ []
 
--- 128 frames: on, off and on before the first block, at first before the clip. That block, looped, comes to p = 128 without a wrap: off and on there, and the
--- next one wraps, so p is 0. On and off, and the third is an exact fit; off twice, and the fourth ends it.
+-- 128 frames: on, off and on before the first block, at first before the clip. That block, looped, comes to p = 128 without a wrap: off and
+-- on there, and the next one wraps, so p is 0. On and off, and the third is an exact fit; off twice, and the fourth ends it.
 abbrev pub many_calls : List Call
 many_calls =
     switch true ∷ start ∷ switch false ∷ clip 128 ∷ switch true ∷ block_at 128 float_zero ∷ switch false ∷ switch true ∷ block_at 128 tick

@@ -1,6 +1,6 @@
--- The tolerances (docs/REFERENCE.md, 'Near tests and tolerances'): a player keeps those that it was made with, a conversion is handed them, every near
--- test receives them, and nothing else reads them. At the defaults, which a player made for a rate alone has, a block and a conversion are those of
--- the three default numbers. Definitions only.
+-- The tolerances (docs/REFERENCE.md, 'Near tests and tolerances'): a player keeps those that it was made with, a conversion is handed them,
+-- every near test receives them, and nothing else reads them. At the defaults, which a player made for a rate alone has, a block and a
+-- conversion are those of the three default numbers. Definitions only.
 use Rattle.std.specs.Prelude.{◌≡◌, List, ℕ, true, false, T, Float, Option, Result, Ok, Err}
 use Rattle.std.specs.Float.{binary32}
 use Rattle.std.specs.Float.Ieee.{fits}
@@ -33,17 +33,18 @@ use Rattle.claims.specs.Longer.{LongerCall, left}
 -- ---- a player is made with a record of tolerances, and keeps it
 pub record KeepsTolerances : Type 0 where
   -- a valid rate makes a fresh player with any options, whatever tolerances stand in them; another rate is refused by 2, whatever they are
-  pub made : (rate : Float) (options : PlayerOptions) → valid_rate rate ≡ true → messages.made_with rate options ≡ Ok (fresh_with rate options)
+  pub made : (rate : Float) (options : PlayerOptions) → valid_rate rate ≡ true
+      → messages.made_with rate options ≡ Ok (fresh_with rate options)
   pub refused : (rate : Float) (options : PlayerOptions) → valid_rate rate ≡ false → messages.made_with rate options ≡ Err refused.Rate
   pub has : (rate : Float) (options : PlayerOptions) → (fresh_with rate options).tolerances ≡ options.tolerances
   -- through every list of calls, refused ones, blocks in cents and previews included
   pub kept : (p : Player) (calls : List LongerCall) → (left p calls).tolerances ≡ p.tolerances
 
 -- ---- every near test receives it
--- The settings of a block hold the player's. In a block with these settings, and in a conversion with these tolerances, each definition that has a near
--- test, or calls one that has, is the one of the given numbers with the record's own in their place: near for near, near zero for near zero, and the
--- relabel distance. So is the whole block: its answer, the player that it leaves, and the output. A block call, a block in cents and a
--- preview all take what they give from `plan`.
+-- The settings of a block hold the player's. In a block with these settings, and in a conversion with these tolerances, each definition
+-- that has a near test, or calls one that has, is the one of the given numbers with the record's own in their place: near for near, near
+-- zero for near zero, and the relabel distance. So is the whole block: its answer, the player that it leaves, and the output. A block call,
+-- a block in cents and a preview all take what they give from `plan`.
 pub record Receives : Type 0 where
   pub settings : (p : Player) (time rate computed : Float) → (block.settings p time rate computed).tolerances ≡ p.tolerances
   -- a sample's playhead
@@ -109,11 +110,12 @@ abbrev pub planned : Plan → Tolerances → Plan
 planned q t = record { player = holding q.player t; keep_alive = q.keep_alive; channels = q.channels; sample = q.sample }
 
 abbrev pub answered : Result BlockReport Refusal → Tolerances → Result BlockReport Refusal
-answered (Ok r) t = Ok (record { player = holding r.player t; keep_alive = r.keep_alive; ended = r.ended; channels = r.channels; position = r.position })
+answered (Ok r) t =
+    Ok (record { player = holding r.player t; keep_alive = r.keep_alive; ended = r.ended; channels = r.channels; position = r.position })
 answered (Err refusal) t = Err refusal
 
--- With the near tests at given numbers, a block is the same whatever tolerances the player holds, but that the player which it leaves holds them still. So
--- a player's tolerances bear on a block by its near tests alone.
+-- With the near tests at given numbers, a block is the same whatever tolerances the player holds, but that the player which it leaves holds
+-- them still. So a player's tolerances bear on a block by its near tests alone.
 pub record ReadNowhereElse : Type 0 where
   pub plan : (close small apart : Float) (n : ℕ) (p : Player) (t : Tolerances) (time rate factor : Float)
       → given.plan close small apart n (holding p t) time rate factor ≡ planned (given.plan close small apart n p time rate factor) t
@@ -121,7 +123,8 @@ pub record ReadNowhereElse : Type 0 where
       → given.rendered close small apart n (holding p t) outLength samplesLength time rate factor
       ≡ answered (given.rendered close small apart n p outLength samplesLength time rate factor) t
   pub output : (close small apart : Float) (n : ℕ) (p : Player) (t : Tolerances) (out samples : List ℕ) (time rate factor : Float)
-      → given.output close small apart n (holding p t) out samples time rate factor ≡ given.output close small apart n p out samples time rate factor
+      → given.output close small apart n (holding p t) out samples time rate factor
+      ≡ given.output close small apart n p out samples time rate factor
 
 -- ---- at the defaults: the numbers are 2 ^ -26, 2 ^ -26 and 0.1 as f32
 pub record AtDefaults : Type 0 where
@@ -146,12 +149,14 @@ pub record AtDefaults : Type 0 where
       → block.rendered n p outLength samplesLength time rate factor
       ≡ given.rendered near_tolerance near_tolerance rate_tolerance n p outLength samplesLength time rate factor
   pub output : (n : ℕ) (p : Player) (out samples : List ℕ) (time rate factor : Float) → p.tolerances ≡ defaults
-      → block.output n p out samples time rate factor ≡ given.output near_tolerance near_tolerance rate_tolerance n p out samples time rate factor
+      → block.output n p out samples time rate factor
+      ≡ given.output near_tolerance near_tolerance rate_tolerance n p out samples time rate factor
   -- and a conversion that is handed none
   pub converted_shape : (shape : Shape) (len : ℕ) (rate : Float)
       → converting.converted_shape shape len rate ≡ given.converted_shape near_tolerance near_tolerance rate_tolerance shape len rate
   pub converted_samples : (shape : Shape) (samples : List ℕ) (rate : Float)
-      → converting.converted_samples shape samples rate ≡ given.converted_samples near_tolerance near_tolerance rate_tolerance shape samples rate
+      → converting.converted_samples shape samples rate
+      ≡ given.converted_samples near_tolerance near_tolerance rate_tolerance shape samples rate
   -- the statements of the long run and of the loop switch hold of the player made for a rate alone
   pub long_run : (rate : Float) → T (fits binary32 rate) → T (valid_rate rate) → (calls : List Call) → T (all_typed calls)
       → (h : Premises rate (accepted (fresh rate) calls)) → Holds rate default_options (accepted (fresh rate) calls) h.clip

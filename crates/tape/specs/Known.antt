@@ -32,9 +32,12 @@ pub record KnownTapes : Type 0 where
   pub started_over : blocks 4 fresh (loop_is true ∷ a_block ∷ a_block ∷ loop_is false ∷ a_block ∷ a_block ∷ [])
       ≡ row 0 1 2 3 ∷ row 0 1 2 3 ∷ row 0 1 2 3 ∷ zeros ∷ []
   -- 4 frames: an exact fit, which doesn't end the tape; the next block does. 5 frames are not reached by one block
-  pub exact_fit : stepped_all 4 4 fresh (a_block ∷ []) ≡ record { looped = false; head = record { p = 4; wrap = false }; exact_fit = true; ended = false }
-  pub next : stepped_all 4 4 fresh (a_block ∷ a_block ∷ []) ≡ record { looped = false; head = record { p = 8; wrap = false }; exact_fit = false; ended = true }
-  pub short : stepped_all 4 5 fresh (a_block ∷ []) ≡ record { looped = false; head = record { p = 4; wrap = false }; exact_fit = false; ended = false }
+  pub exact_fit : stepped_all 4 4 fresh (a_block ∷ [])
+      ≡ record { looped = false; head = record { p = 4; wrap = false }; exact_fit = true; ended = false }
+  pub next : stepped_all 4 4 fresh (a_block ∷ a_block ∷ [])
+      ≡ record { looped = false; head = record { p = 8; wrap = false }; exact_fit = false; ended = true }
+  pub short : stepped_all 4 5 fresh (a_block ∷ [])
+      ≡ record { looped = false; head = record { p = 4; wrap = false }; exact_fit = false; ended = false }
   -- the premise: no loop-on between the two; before the fit, after the next block, or with no block to come it may be
   pub between : stays_off 4 4 fresh (a_block ∷ loop_is false ∷ loop_is true ∷ a_block ∷ []) ≡ false
   pub elsewhere : stays_off 4 4 fresh (loop_is true ∷ loop_is false ∷ a_block ∷ a_block ∷ loop_is true ∷ a_block ∷ []) ≡ true

@@ -17,12 +17,14 @@ pub record TheTape (n l : ℕ) : Type 0 where
   pub runs_out : (t : Tape) → t.ended ≡ false → t.looped ≡ false → t.head.wrap ≡ false
       → ((stepped n l t a_block).head.p ≡ t.head.p + n) × ((stepped n l t a_block).ended ≡ ltb l (t.head.p + n))
   -- and p exactly l then is an exact fit
-  pub exact_fit : (t : Tape) → t.ended ≡ false → t.looped ≡ false → t.head.wrap ≡ false → (stepped n l t a_block).exact_fit ≡ eqb (t.head.p + n) l
+  pub exact_fit : (t : Tape) → t.ended ≡ false → t.looped ≡ false → t.head.wrap ≡ false
+      → (stepped n l t a_block).exact_fit ≡ eqb (t.head.p + n) l
   -- so the block after an exact fit ends it, if it is unlooped too
   pub next_ends : (t : Tape) → t.head.p ≡ l → t.looped ≡ false → t.head.wrap ≡ false → (stepped n l t a_block).ended ≡ true
   -- these hold at any moment of a list: between its steps no wrap is noted, and p lies at or below l until the end
   pub between : (steps : List Step)
-      → ((stepped_all n l fresh steps).head.wrap ≡ false) × ((stepped_all n l fresh steps).ended ≡ false → (stepped_all n l fresh steps).head.p ≤ l)
+      → ((stepped_all n l fresh steps).head.wrap ≡ false)
+      × ((stepped_all n l fresh steps).ended ≡ false → (stepped_all n l fresh steps).head.p ≤ l)
   -- once ended, it gives zeros for good
   pub over : (t : Tape) → t.ended ≡ true → (steps : List Step)
       → ((stepped_all n l t steps).ended ≡ true) × ((i : ℕ) → frame_at l (stepped_all n l t steps) i ≡ None)

@@ -1,6 +1,6 @@
--- The tape (docs/REFERENCE.md, 'The loop switch'): which frame of a clip each sample plays where the loop is switched between blocks. In whole numbers
--- alone: it knows nothing of floats, of the player or of the clock. l is the number of the clip's frames, n that of a block's samples. Definitions, and a
--- few values of them by hand.
+-- The tape (docs/REFERENCE.md, 'The loop switch'): which frame of a clip each sample plays where the loop is switched between blocks. In
+-- whole numbers alone: it knows nothing of floats, of the player or of the clock. l is the number of the clip's frames, n that of a block's
+-- samples. Definitions, and a few values of them by hand.
 use Rattle.std.proofs.Math.Path.{refl}
 use Rattle.std.specs.Prelude.{◌≡◌, Bool, true, false, not, ◌&&◌, cond, List, [], ◌∷◌, ℕ, zero, suc, eqb, ltb, get_or, Option, None, Some}
 
@@ -9,8 +9,8 @@ pub record Head : Type 0 where
   pub p : ℕ
   pub wrap : Bool
 
--- ---- a sample: where p is below the clip's length, frame p is played, and p grows by 1; else, looped, frame 0 is played, p becomes 1, and a wrap is noted;
--- else the sample is zero, and p grows by 1
+-- ---- a sample: where p is below the clip's length, frame p is played, and p grows by 1; else, looped, frame 0 is played, p becomes 1, and
+-- a wrap is noted; else the sample is zero, and p grows by 1
 
 -- the frame that it plays; None is zero
 abbrev pub played : ℕ → Bool → ℕ → Option ℕ
