@@ -1,5 +1,5 @@
--- Known clips: document 01's example, and clips of two frames with an onset (document 02, 2.5). They meet the premises of what is stated about readers and
--- writer.
+-- Known clips (docs/REFERENCE.md, 'Clip file' and 'Known frames'): one of a single frame, and clips of two frames with an onset. They meet
+-- the premises of what is stated about readers and writer.
 use Rattle.std.specs.Prelude.{◌≡◌, List, [], ◌∷◌, ℕ, ◌+◌, ◌^◌, ◌<◌, length, replicate, T, Ok, Err}
 use Rattle.std.specs.Float.{binary32}
 use Rattle.std.specs.Float.Ieee.{of_bits, fits}
@@ -12,7 +12,7 @@ use Rattle.clip.specs.Statement.{Below, frames_of}
 use Rattle.clip.specs.declared.ClipHeader.{ClipHeader}
 use Rattle.clip.specs.declared.Form.TheVariants as form
 
--- document 01's: 10 00 01 00 01 00 00 00 00 80 3B 47 10 00 00 00 00 00 80 3F
+-- one channel, one frame of the value 1, at 48,000: 10 00 01 00 01 00 00 00 00 80 3B 47 10 00 00 00 00 00 80 3F
 abbrev pub old_clip : List ℕ
 old_clip = 0x10 ∷ 0 ∷ 1 ∷ 0 ∷ 1 ∷ 0 ∷ 0 ∷ 0 ∷ 0 ∷ 0x80 ∷ 0x3B ∷ 0x47 ∷ 0x10 ∷ 0 ∷ 0 ∷ 0 ∷ 0 ∷ 0 ∷ 0x80 ∷ 0x3F ∷ []
 

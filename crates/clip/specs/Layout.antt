@@ -1,4 +1,4 @@
--- The bytes of a clip file (document 01, 'Clip file'), with either header (document 02, 2.5). Definitions only.
+-- The bytes of a clip file with either header (docs/REFERENCE.md, 'Clip file'). Definitions only.
 use Rattle.std.specs.Prelude.{List, [], ◌∷◌, ◌++◌, ℕ, zero, suc, ◌+◌, ◌*◌, ◌/◌, ◌%◌}
 use Rattle.lists.specs.Table.{table}
 use Rattle.clip.specs.declared.Form.{Form}
@@ -14,16 +14,16 @@ unfoldable pub words : List ℕ → List ℕ
 words [] = []
 words (w ∷ ws) = bytes 4 w ++ words ws
 
--- the bytes of the onset: 'a u32 onset before the offsets'; the old header has none
+-- the bytes of the onset: the new header has a u32 before the offsets, the old header none
 abbrev pub onset_bytes : Form → ℕ
 onset_bytes form.Old = 0
 onset_bytes form.New = 4
 
--- 'header length H = 12 + 4C'; 'the header becomes 16 + 4C bytes'
+-- the header's length with C channels: 12 + 4C bytes in the old form, 16 + 4C in the new one
 abbrev pub header_length : Form → ℕ → ℕ
 header_length f channels = 12 + onset_bytes f + 4 * channels
 
--- 'offset c is H + 4Nc': where channel c starts
+-- where channel c starts: behind the header and the N frames of each channel before it, 4 bytes a frame
 abbrev pub offset : Form → ℕ → ℕ → ℕ → ℕ
 offset f channels frames c = header_length f channels + 4 * frames * c
 
@@ -31,11 +31,12 @@ offset f channels frames c = header_length f channels + 4 * frames * c
 abbrev pub file_length : Form → ℕ → ℕ → ℕ
 file_length f channels frames = header_length f channels + 4 * frames * channels
 
--- 'at most 65,536'
+-- the most bytes that a clip file has
 abbrev pub max_length : ℕ
 max_length = 65536
 
--- 'u16 header length H, u16 channel count C, u32 frames N, u32 rate as f32 bits', the onset, 'C u32 offsets. Then f32 frames'
+-- the file, each number little-endian: the header's length and the channel count in two bytes each, the frames and the rate's f32 bits in
+-- four, the onset where there is one, an offset for each channel in four, and then the frames' f32 bits, channel after channel
 unfoldable pub layout : Form → ℕ → ℕ → ℕ → ℕ → List ℕ → List ℕ
 layout f channels frames rate onset samples =
     bytes 2 (header_length f channels) ++ (bytes 2 channels ++ (bytes 4 frames ++ (bytes 4 rate

@@ -1,4 +1,5 @@
--- What is known where the checks of a clip pass: each has passed, and the answer is what stands behind them.
+-- What is known where the checks of a clip pass (docs/REFERENCE.md, 'Clip file'): each has passed, and the answer is what stands behind
+-- them.
 use Rattle.std.specs.Prelude.{◌≡◌, Bool, true, false, not, cond, ltb, ℕ, ◌*◌, List, Ok, Err}
 use Rattle.std.proofs.Common.{refl}
 use Rattle.std.proofs.Math.Path.{subst}

@@ -1,5 +1,5 @@
--- What reading a clip file answers: 15 where the file is not the layout's, then 1, 2 (document 01, 'Clip file' and the table); with the onset,
--- which a new header has, 17 after them (document 02, 2.5). Definitions only.
+-- What reading a clip file answers (docs/REFERENCE.md, 'Clip file' and 'Refusals'): 15 where the file is not the layout's, then 1, 2; with
+-- the onset, which a new header has, 17 after them. Definitions only.
 use Rattle.std.specs.Prelude.{Bool, true, not, ◌&&◌, cond, List, ℕ, zero, suc, ◌+◌, ◌*◌, leb, ltb, eqb, length, get_or, drop, Result, Ok, Err}
 use Rattle.std.specs.Float.{binary32}
 use Rattle.std.specs.Float.Ieee.{of_bits}
@@ -37,7 +37,7 @@ frames_field file = number_at 4 file 4
 abbrev pub rate_field : List ℕ → ℕ
 rate_field file = number_at 4 file 8
 
--- 'an old one reading as onset 0': a number of no bytes is 0
+-- an old header has no onset, and is read as onset 0: a number of no bytes is 0
 abbrev pub onset_field : Form → List ℕ → ℕ
 onset_field f file = number_at (onset_bytes f) file 12
 
@@ -84,7 +84,7 @@ clip_read file =
 
 -- ---- the new reader, which takes both headers
 
--- '17 if the onset is not below the frames, after 15, 1 and 2': a clip's checks, of the reader and of the writer
+-- a clip's checks, of the reader and of the writer: 15, 1, 2, and then 17 where the onset is not below the number of frames
 unfoldable pub clip_checks : Bool → Shape → ℕ → ℕ → Result Unit Refusal
 clip_checks laid_out shape len onset =
     cond (not laid_out) (Err refused.Layout)

@@ -1,5 +1,5 @@
--- What a reader accepts: exactly the bytes of the layout, and it reads from them what was put there. How the two readers agree, and that what is written
--- is read as it was.
+-- What holds of clip files (docs/REFERENCE.md, 'Clip file'). What a reader accepts: exactly the bytes of the layout, and it reads from them
+-- what was put there. How the two readers agree, and that what is written is read as it was.
 use Rattle.std.specs.Prelude.{◌≡◌, true, List, ℕ, ◌+◌, ◌*◌, ◌^◌, ◌≤◌, ◌<◌, length, get_or, to_bits, T, Result, Ok, Err}
 use Rattle.std.specs.Float.{binary32}
 use Rattle.std.specs.Float.Ieee.{fits}
@@ -47,7 +47,7 @@ Complete f = (file : List ℕ) (channels frames rate onset : ℕ) (samples : Lis
 abbrev pub ClipFile : Type 0
 ClipFile = (f : Form) → Sound f × Complete f
 
--- ---- the two readers (document 02, 2.5)
+-- ---- the two readers
 
 -- a header's answer with onset 0
 abbrev pub at_zero : Result ClipHeader Refusal → Result WithOnset Refusal
@@ -55,16 +55,16 @@ at_zero (Ok h) = Ok (record { header = h; onset = 0 })
 at_zero (Err refusal) = Err refusal
 
 pub record TwoReaders : Type 0 where
-  -- 'the old reader refuses the new header with 15'
+  -- a file with the new header: the old reader refuses it with 15
   pub refused_by_old : (file : List ℕ) → form_of file ≡ form.New → clip_read file ≡ Err refused.Layout
-  -- 'an old one reading as onset 0': any other file has the old reader's answer, refusals too
+  -- any other file has the old reader's answer, with onset 0, refusals too
   pub as_old : (file : List ℕ) → form_of file ≡ form.Old → read_with_onset file ≡ at_zero (clip_read file)
   pub frames_as_old : (file : List ℕ) (n : ℕ) → form_of file ≡ form.Old → frames_read_with_onset file n ≡ frames_read file n
   -- what both accept is one clip
   pub same : (file : List ℕ) (h : ClipHeader) (read : WithOnset) → clip_read file ≡ Ok h → read_with_onset file ≡ Ok read
       → read ≡ record { header = h; onset = 0 }
 
--- ---- the writer (document 02, 2.5)
+-- ---- the writer
 
 -- the frames that a header leads to
 abbrev pub frames_of : List ℕ → ClipHeader → List ℕ
@@ -77,16 +77,17 @@ pub record ReadsAs (file : List ℕ) (shape : Shape) (rate_bits onset : ℕ) (sa
   pub frames : (out : List ℕ) → length out ≡ shape.channels * shape.frames → frames_out (frames_read_with_onset file (length out)) file out ≡ samples
 
 pub record WrittenClips : Type 0 where
-  -- 'the writer's checks are the reader's': of a clip of so many samples that a file holds, the reader says of the file what the writer says of the clip
+  -- the writer and the reader check alike: of a clip of so many samples that a file holds, the reader says of the file what the writer says
+  -- of the clip
   pub same_checks : (shape : Shape) (onset : ℕ) (samples : List ℕ) → T (fits binary32 shape.rate) → Below (2 ^ 32) samples
       → shape.frames < 2 ^ 32 → onset < 2 ^ 32 → length samples ≡ shape.channels * shape.frames → is_file shape.channels shape.frames ≡ true
       → passed (read_with_onset (written shape onset samples)) ≡ passed (length_to_write shape (length samples) onset)
-  -- 'writing a clip and reading it returns the same shape, rate, onset and frame bits', of an f32 rate and u32 samples
+  -- what is written is read with the shape, rate, onset and frame bits that it had, of an f32 rate and u32 samples
   pub returns : (shape : Shape) (onset n : ℕ) (samples : List ℕ) → T (fits binary32 shape.rate) → Below (2 ^ 32) samples
       → length_to_write shape (length samples) onset ≡ Ok n
       → (length (written shape onset samples) ≡ n)
       × ReadsAs (written shape onset samples) shape (to_bits binary32 shape.rate) onset samples
-  -- 'every accepted new clip is the one the writer makes'
+  -- a new clip that the reader accepts is byte for byte what the writer makes of what was read
   pub made : (file : List ℕ) (read : WithOnset) → Below 256 file → form_of file ≡ form.New → read_with_onset file ≡ Ok read
       → (length_to_write read.header.shape (length (frames_of file read.header)) read.onset ≡ Ok (length file))
       × (written read.header.shape read.onset (frames_of file read.header) ≡ file)
@@ -94,6 +95,6 @@ pub record WrittenClips : Type 0 where
   pub again : (file : List ℕ) (h : ClipHeader) → Below 256 file → clip_read file ≡ Ok h → length file + 4 ≤ max_length
       → (length_to_write h.shape (length (frames_of file h)) 0 ≡ Ok (length file + 4))
       × ReadsAs (written h.shape 0 (frames_of file h)) h.shape h.rate_bits 0 (frames_of file h)
-  -- where they don't fit, it is 'a file over 65,536 bytes'
+  -- where the four bytes don't fit, 15
   pub too_long : (file : List ℕ) (h : ClipHeader) → Below 256 file → clip_read file ≡ Ok h → max_length < length file + 4
       → length_to_write h.shape (length (frames_of file h)) 0 ≡ Err refused.Layout

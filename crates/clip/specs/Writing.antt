@@ -1,5 +1,5 @@
--- Writing a clip file with its onset (document 02, 2.5): 'the writer's checks are the reader's, its 15 being no frames or a file over 65,536 bytes'; then
--- 8 for a slice of another length (document 01, 'Where a call is turned down'). Definitions only.
+-- Writing a clip file with its onset (docs/REFERENCE.md, 'Clip file' and 'Refusals'): the checks are those of the reader, where 15 is a
+-- clip without frames or whose file would be over 65,536 bytes long; then 8 for a slice of another length. Definitions only.
 use Rattle.std.specs.Prelude.{Bool, ◌&&◌, List, ℕ, leb, eqb, to_bits, Result, Ok, Err}
 use Rattle.std.specs.Float.{binary32}
 use Rattle.buffer.specs.Answers.{after_checks, check}
@@ -10,7 +10,7 @@ use Rattle.clip.specs.Layout.{file_length, max_length, layout}
 use Rattle.clip.specs.Reading.{clip_checks}
 use Rattle.clip.specs.declared.Form.TheVariants as form
 
--- not 'no frames or a file over 65,536 bytes'
+-- there are frames, and the file is at most 65,536 bytes long
 abbrev pub is_file : ℕ → ℕ → Bool
 is_file channels frames = leb 1 frames && leb (file_length form.New channels frames) max_length
 
@@ -19,7 +19,7 @@ unfoldable pub length_to_write : Shape → ℕ → ℕ → Result ℕ Refusal
 length_to_write shape len onset =
     after_checks (clip_checks (is_file shape.channels shape.frames) shape len onset) (file_length form.New shape.channels shape.frames)
 
--- 'lent a slice exactly as long as that file, else 8, checked last'
+-- the lent slice is just as long as the file; if not, 8 comes after every other refusal
 unfoldable pub exactly : Result ℕ Refusal → ℕ → Result Unit Refusal
 exactly (Ok n) lent = check (eqb lent n) refused.Length
 exactly (Err refusal) lent = Err refusal

@@ -1,4 +1,4 @@
-// Little-endian numbers in a file's bytes.
+//! Little-endian numbers in a file's bytes.
 ghost use Rattle.std.specs.Prelude.{◌≡◌, ◌+◌, ◌*◌, ◌<◌, length, get_or};
 ghost use Rattle.lists.specs.Table.{table};
 ghost use Rattle.clip.specs.Layout.{words};

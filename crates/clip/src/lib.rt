@@ -1,5 +1,7 @@
-// The clip file: what its header says, and its frames; and writing one. Every byte string of every
-// length has an answer, and so has every shape.
+//! The clip file: what its header says, its frames, and writing one (docs/REFERENCE.md, 'Clip file').
+//! Every byte string of every length has an answer, and so has every shape: a clip, or one of the
+//! refusals 15 (layout), 1 (shape), 2 (rate) and 17 (onset), in this order; 8 (length) for a lent
+//! slice of another length comes last.
 #![tactic(auto)]
 
 mod bytes;
@@ -15,10 +17,10 @@ use buffer::Shape;
 pub use reading::{read_clip, read_clip_with_onset, read_frames, read_frames_with_onset};
 pub use writing::{length_to_write, write_clip};
 
-// The longest clip file.
+/// The length of the longest clip file, in bytes.
 pub const MAX_LENGTH: usize = 65_536;
 
-// The header's form: the new one has an onset.
+/// The header's form: the new one has an onset.
 #[derive(Clone, Copy)]
 pub enum Form {
     Old,
@@ -26,7 +28,7 @@ pub enum Form {
 }
 
 impl Form {
-    // The bytes of the onset.
+    /// The bytes of the onset.
     pub fn onset_bytes(self) -> usize
         ensures { result ≡ onset_bytes self }
     {
@@ -37,7 +39,7 @@ impl Form {
     }
 }
 
-// What a clip's header says: `start` is where its frames start.
+/// What a clip's header says: its shape, the bits of its rate, and the byte at which its frames start.
 #[derive(Drop)]
 pub struct ClipHeader {
     pub shape: Shape,
@@ -45,33 +47,33 @@ pub struct ClipHeader {
     pub start: usize,
 }
 
-// What a clip's header says, and the frame of the sound's onset: 0 where the header has none.
+/// What a clip's header says, and the frame of the sound's onset: 0 where the header has none.
 #[derive(Drop)]
 pub struct WithOnset {
     pub header: ClipHeader,
     pub onset: u32,
 }
 
-// With either header: exactly the bytes of the layout are accepted, and what is read is what they
-// were made of.
+/// With either header: exactly the bytes of the layout are accepted, and what is read is what they
+/// were made of.
 pub fn clip_file()
     ensures { ClipFile }
 {}
 
-// The old reader refuses the new header, and of any other file both readers say the same.
+/// The old reader refuses the new header, and of any other file both readers say the same.
 #[tactic(auto, using(crate::proofs::TwoReaders::two_readers))]
 pub fn two_readers()
     ensures { TwoReaders }
 {}
 
-// What is written is read as it was, and every accepted new clip is what the writer makes of what
-// was read.
+/// What is written is read as it was, and every accepted new clip is what the writer makes of what
+/// was read.
 #[tactic(auto, using(crate::proofs::WrittenClips::written_clips))]
 pub fn written_clips()
     ensures { WrittenClips }
 {}
 
-// Document 01's example, and clips with an onset.
+/// Known clips: the shortest one, and some of two frames, with an onset and without.
 #[tactic(auto, using(crate::proofs::Known::known_clips))]
 pub fn known_clips()
     ensures { KnownClips }

@@ -1,5 +1,5 @@
-// Reading a clip file: the old reader, which knows the old header alone, and the new one, which
-// takes both.
+//! Reading a clip file: the old reader, which knows the old header alone, and the new one, which
+//! takes both.
 ghost use Rattle.std.specs.Prelude.{◌≡◌, ◌*◌, ◌<◌, length, true, IfOk};
 ghost use Rattle.buffer.specs.Answers.{check};
 ghost use Rattle.buffer.specs.Limits.{Valid};
@@ -12,8 +12,8 @@ use super::{ClipHeader, Form, MAX_LENGTH, WithOnset};
 use buffer::{Refusal, Shape};
 use rounding::BinaryFloat;
 
-// Whether offset c is where channel c starts, for each channel. A loop: with
-// `(0..channels).all(..)` the result is not proved ("`search` gave up at one of its limits").
+// Whether offset c is where channel c starts, for each channel. A loop, since the result of
+// `(0..channels).all(..)` is not proved.
 #[tactic(auto, using(crate::proofs::Numbers::rows_bound, crate::proofs::Each::each_more), unfolding(crate::specs::Reading::each, crate::specs::Reading::offsets_match))]
 fn offsets_match(form: Form, file: &[u8], channels: usize, frames: usize) -> bool
     requires { (channels < 65536) × (frames < 4294967296) }
@@ -127,7 +127,8 @@ fn read_as(form: Form, file: &[u8]) -> Result<WithOnset, Refusal>
     Ok(WithOnset { header, onset })
 }
 
-// The old reader: a clip's header, or why the file is refused. A new header is refused with 15.
+/// The old reader: a clip's header, or why the file is refused: 15 (layout), which a new header
+/// gets too, 1 (shape), 2 (rate).
 #[tactic(auto, using(crate::proofs::Numbers::rows_bound), unfolding(crate::specs::Reading::clip_read))]
 pub fn read_clip(file: &[u8]) -> Result<ClipHeader, Refusal>
     ensures { result ≡ clip_read file.now }
@@ -144,7 +145,8 @@ pub fn read_clip(file: &[u8]) -> Result<ClipHeader, Refusal>
     Ok(header)
 }
 
-// The new reader: the header of a clip of either form, and its onset, or why the file is refused.
+/// The new reader: the header of a clip of either form, and its onset, or why the file is refused:
+/// 15 (layout), 1 (shape), 2 (rate), 17 (onset).
 pub fn read_clip_with_onset(file: &[u8]) -> Result<WithOnset, Refusal>
     ensures answer { result ≡ read_with_onset file.now }
     ensures valid { IfOk result ValidHeader }
@@ -167,7 +169,8 @@ fn read_frames_as(form: Form, file: &[u8], out: &mut [u32]) -> Result<ClipHeader
     Ok(header)
 }
 
-// Stores a clip's frames, by the old reader.
+/// Stores a clip's frames as f32 bits, channel after channel, by the old reader. A slice of another
+/// length than channels × frames is refused with 8 (length), last.
 #[tactic(auto, using(crate::proofs::Accepted::old_reads))]
 pub fn read_frames(file: &[u8], out: &mut [u32]) -> Result<ClipHeader, Refusal>
     ensures { (result ≡ frames_read file.now (length out.old))
@@ -176,7 +179,7 @@ pub fn read_frames(file: &[u8], out: &mut [u32]) -> Result<ClipHeader, Refusal>
     read_frames_as(Form::Old, file, out)
 }
 
-// Stores a clip's frames, by the new reader.
+/// The same by the new reader.
 pub fn read_frames_with_onset(file: &[u8], out: &mut [u32]) -> Result<ClipHeader, Refusal>
     ensures { (result ≡ frames_read_with_onset file.now (length out.old))
         × (out.new ≡ frames_out result file.now out.old) }

@@ -1,4 +1,4 @@
-// Writing a clip file with its onset.
+//! Writing a clip file with its onset.
 ghost use Rattle.std.specs.Prelude.{◌≡◌, ◌+◌, ◌*◌, ◌≤◌, ◌++◌, length, to_bits};
 ghost use Rattle.std.specs.Float.{binary32};
 ghost use Rattle.lists.specs.Table.{table};
@@ -21,7 +21,8 @@ fn is_file(channels: usize, frames: usize) -> bool
     1 <= frames && words <= (MAX_LENGTH as u128 - 16) / 4
 }
 
-// The length of the file of a clip of `len` samples, or why it is refused.
+/// The length in bytes of the file of a clip of `len` samples, or why it is refused: 15 (layout:
+/// no frames, or a file that is too long), 1 (shape), 2 (rate), 17 (onset).
 #[tactic(auto, using(crate::proofs::Numbers::rows_bound), unfolding(crate::specs::Writing::length_to_write, crate::specs::Reading::clip_checks))]
 pub fn length_to_write(shape: Shape, len: usize, onset: u32) -> Result<usize, Refusal>
     ensures { result ≡ length_to_write shape len onset }
@@ -64,7 +65,8 @@ fn write_header(shape: Shape, onset: u32, header: &mut [u8])
     write_words(&starts(channels, frames)[..channels], offsets);
 }
 
-// Writes a clip file into a slice just as long as it.
+/// Writes a clip file into a slice just as long as it. It is refused as `length_to_write` says, and
+/// then with 8 (length) where the slice has another length.
 #[tactic(auto, using(crate::proofs::Writable::writable), unfolding(crate::specs::Writing::exactly, crate::specs::Layout::layout))]
 pub fn write_clip(shape: Shape, onset: u32, samples: &[u32], file: &mut [u8]) -> Result<(), Refusal>
     ensures { (result ≡ clip_written shape (length samples.now) onset (length file.old))

@@ -1,4 +1,4 @@
--- A line of `trial` as a command (document 01, '`trial`'). Anything but the exact bytes is none. Definitions only.
+-- A line of `trial` as a command (docs/REFERENCE.md, 'trial'). Anything but the exact bytes is none. Definitions only.
 use Rattle.std.specs.Prelude.{Bool, true, false, ◌&&◌, cond, List, ℕ, eqb, get_or, length, take, drop, codes, bytes_eq, Option, Some, None, option_and_then}
 use Rattle.commands.specs.Digits.{SPACE, hex_number}
 use Rattle.commands.specs.declared.Command.{Command}

@@ -1,11 +1,11 @@
--- A line is a command exactly when it is that command's text (document 01, '`trial`').
+-- A line is a command exactly when it is that command's text (docs/REFERENCE.md, 'trial').
 use Rattle.std.specs.Prelude.{◌≡◌, List, [], ◌∷◌, ◌++◌, ◌⊎◌, ℕ, ◌+◌, ◌^◌, ◌<◌, Some, None}
 use Rattle.commands.specs.Digits.{SPACE, flag, hex}
 use Rattle.commands.specs.Commands.{command}
 use Rattle.commands.specs.declared.Command.{Command}
 use Rattle.commands.specs.declared.Command.TheVariants.{Start, Stop, LoopStart, LoopEnd, Loop, Block}
 
--- a letter and a time: 'f64 bits, 16 upper-case hex digits'
+-- a letter and a time, whose f64 bits are 16 hex digits with capital letters
 abbrev pub time_line : ℕ → ℕ → List ℕ
 time_line letter x = letter ∷ SPACE ∷ hex 16 x
 

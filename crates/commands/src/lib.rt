@@ -1,4 +1,5 @@
-// A line of the input of `trial` as a command.
+//! A line of the input of `trial` as a command (docs/REFERENCE.md, 'trial'). A line that is no
+//! command's exact text is none.
 #![tactic(auto)]
 
 ghost use Rattle.std.specs.Prelude.{◌≡◌};
@@ -6,7 +7,7 @@ ghost use Rattle.commands.specs.Digits.{hex_digit, read_hex, hex_number};
 ghost use Rattle.commands.specs.Commands.{time_command, start_command, command};
 ghost use Rattle.commands.specs.Statement.{CommandLines};
 
-// A line of input; times are f64 bit patterns.
+/// A line of input; times are f64 bit patterns.
 #[derive(Clone, Copy, PartialEq, Eq, Debug)]
 pub enum Command {
     Start(u64, u64, u64),
@@ -17,7 +18,7 @@ pub enum Command {
     Block,
 }
 
-// The value of a hex digit, upper case.
+/// The value of a hex digit, upper case.
 #[tactic(auto, unfolding(crate::specs::Digits::hex_digit))]
 pub fn hex_digit(b: u8) -> Option<u8>
     ensures { result ≡ hex_digit b }
@@ -29,8 +30,8 @@ pub fn hex_digit(b: u8) -> Option<u8>
     }
 }
 
-// The number that hex digits are; none where they are more than 16. Std's `from_str_radix` takes small
-// letters and a sign, and asks for a str.
+/// The number that hex digits are; none where they are more than 16. Std's `from_str_radix` takes small
+/// letters and a sign, and asks for a str.
 #[tactic(auto, using(crate::proofs::Hex::hex_stops, crate::proofs::Hex::hex_done), unfolding(crate::specs::Digits::read_hex))]
 pub fn read_hex(digits: &[u8]) -> Option<u64>
     ensures { result ≡ read_hex digits.now }
@@ -86,7 +87,7 @@ fn start_command(times: &[u8]) -> Option<Command>
     ))
 }
 
-// The command that a line is, its newline left out.
+/// The command that a line is, its newline left out.
 #[tactic(auto, unfolding(crate::specs::Commands::command))]
 pub fn read_command(line: &[u8]) -> Option<Command>
     ensures { result ≡ command line.now }
@@ -101,7 +102,7 @@ pub fn read_command(line: &[u8]) -> Option<Command>
     }
 }
 
-// A line is a command exactly when it is that command's text.
+/// A line is a command exactly when it is that command's text.
 #[tactic(auto, using(crate::proofs::Texts::command_lines))]
 pub fn command_lines()
     ensures { CommandLines }

@@ -7,7 +7,6 @@ use borrow.Author.Tests.{le-ltb, ne_eqb, ltb-true}
 use Rattle.std.specs.Prelude.{Ok}
 use Rattle.player.specs.Record.{fresh, fresh_with, given}
 use Rattle.player.specs.Messages.{made, buffered, clamped}
-use lib.ListN.{length, take}
 use Rattle.text.specs.Lines.{refusal_text}
 use Rattle.clip.specs.Reading.{number, onset_field, is_layout, header_of, form_of, clip_checks, read_as, read_with_onset}
 use Rattle.clip.proofs.LaidOut.{laid_out}
@@ -15,7 +14,7 @@ use Rattle.clip.specs.Statement.{frames_of}
 use Rattle.clip.specs.Passed.{passes, read_passes}
 use Rattle.clip.specs.declared.WithOnset.{WithOnset}
 use Rattle.loading.specs.Loading.{count_of, loaded, samples_out}
-use Rattle.loading.specs.Playing.{clip_room, file_room, told}
+use Rattle.loading.specs.Playing.{clip_room, told}
 use Rattle.loading.proofs.Telling.{front_read}
 use Rattle.loading.specs.Statement.{ClipsPlay}
 

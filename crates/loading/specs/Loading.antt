@@ -1,5 +1,5 @@
--- '`trial` reads clip.bin, sends it to a player at the clip's rate' (document 01), as a new reader (document 02, 2.5): the player is handed the clip's shape
--- and samples, and not the onset. Definitions only.
+-- What `trial` starts with (docs/REFERENCE.md, 'trial' and 'Clip file'): a fresh player of the clip's rate that was handed the clip.
+-- `trial` is a new reader: the player has the clip's shape and samples, and not the onset. Definitions only.
 use Rattle.std.specs.Prelude.{ℕ, ◌*◌, List, [], cond, ltb, Result, Ok, Err}
 use Rattle.lists.specs.Table.{over}
 use Rattle.buffer.specs.Answers.{answer_of, stored}

@@ -1,5 +1,6 @@
--- What the program `trial` prints of a clip file's bytes and the lines' bytes (docs/REFERENCE.md, 'trial'): of a clip that is refused `X` and its number, else
--- the transcript of the lines, from a fresh player that was sent the clip, block number 0 and an empty block output. Definitions only.
+-- What the program `trial` prints of a clip file's bytes and the lines' bytes (docs/REFERENCE.md, 'trial'): of a clip that is refused `X`
+-- and its number, else the transcript of the lines, from a fresh player that was sent the clip, block number 0 and an empty block output.
+-- Definitions only.
 use Rattle.std.specs.Prelude.{ℕ, List, Result, Ok, Err}
 use Rattle.buffer.specs.Refusals.{number}
 use Rattle.buffer.specs.declared.refusals.Refusal.{Refusal}

@@ -1,4 +1,5 @@
-// A clip file given to a player, for the program `trial`.
+//! A clip file given to a player, and the whole of the program `trial` over its bytes, a reader and a
+//! writer (docs/REFERENCE.md, 'trial').
 #![tactic(auto)]
 
 mod playing;
@@ -11,8 +12,9 @@ use buffer::Refusal;
 use player::Player;
 pub use playing::{ROOM, play, read_front};
 
-// Reads the clip of a file's bytes as the new reader takes it: the player that it is given has the
-// clip's rate, and its samples, as many as are answered, stand at the front of `samples`.
+/// Reads the clip of a file's bytes as the new reader takes it: the player that it is given has the
+/// clip's rate, and its samples, as many as are answered, stand at the front of `samples`. Why it is refused:
+/// as the new reader says, and with 8 (length) where `samples` has no room, which `ROOM` words have.
 pub fn load(file: &[u8], samples: &mut [u32]) -> Result<(Player, usize), Refusal>
     ensures answer { (result ≡ loaded file.now (length samples.old))
         × (samples.new ≡ samples_out result file.now samples.old) }
@@ -30,7 +32,8 @@ pub fn load(file: &[u8], samples: &mut [u32]) -> Result<(Player, usize), Refusal
     Ok((player, count))
 }
 
-// A clip that the new reader accepts is sent to its player, and its onset moves no sample.
+/// A clip that the new reader accepts fits `ROOM` words and is sent to its player, and its onset
+/// moves no sample.
 #[tactic(auto, using(crate::proofs::ClipsPlay::clips_play))]
 pub fn clips_play()
     ensures { ClipsPlay }

@@ -1,3 +1,3 @@
--- What one line of `trial` does to the player and prints (document 01, '`trial`').
+-- What one line of `trial` does to the player and prints (docs/REFERENCE.md, 'trial').
 pub mod Obeying
 pub mod Statement

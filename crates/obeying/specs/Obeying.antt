@@ -1,4 +1,5 @@
--- What one line of `trial` does: the session that it leaves, the lent block output, and the text that is printed (document 01, '`trial`'). Definitions only.
+-- What one line of `trial` does: the session that it leaves, the lent block output, and the text that is printed
+-- (docs/REFERENCE.md, 'trial'). Definitions only.
 use Rattle.std.specs.Prelude.{ℕ, ◌+◌, ◌*◌, min, Bool, cond, List, [], length, from_bits, nat_le, Float}
 use Rattle.std.proofs.lemmas.List.Edits.{sets}
 use Rattle.std.specs.Float.{binary64}
@@ -38,11 +39,11 @@ abbrev pub number_of : Option Refusal → ℕ
 number_of (Some refusal) = number refusal
 number_of None = 0
 
--- 'A refusal prints `X` and its number'
+-- a refused call prints `X` and the refusal's number, and leaves the player as it was
 unfoldable pub refused : Session → ℕ → Reply
 refused s number = reply s (refusal_text number)
 
--- ---- messages: 'An accepted message prints nothing'
+-- ---- messages: one that is accepted prints nothing
 unfoldable pub after_message : Session → Result Player Refusal → Reply
 after_message s (Ok p) = reply (session_of p s.number) []
 after_message s (Err turned_down) = refused s (number turned_down)
@@ -55,8 +56,8 @@ abbrev pub seconds : ℕ → Float
 seconds bits = from_bits binary64 bits
 
 -- ---- blocks
--- `B` lines are counted up to 2 ^ 45. A later one has the time of that number, over 2 ^ 30 at every allowed rate, and is refused with 13 (`LateBlocks` of
--- Statement.antt).
+-- `B` lines are counted up to 2 ^ 45. A later one has the time of that number, over 2 ^ 30 at every allowed rate, and is refused with 13
+-- (`LateBlocks` of Statement.antt).
 abbrev pub most_blocks : ℕ
 most_blocks = 35184372088832
 
@@ -66,7 +67,7 @@ counted number = min number most_blocks
 abbrev pub next_number : ℕ → ℕ
 next_number number = counted number + 1
 
--- 'a block at time (128 × number)/rate, number counting the `B` lines from 0'
+-- the block's time: 128 × number frames at the player's rate, where the first `B` line has the number 0
 unfoldable pub block_time : Session → Float
 block_time s = div binary64 (whole (128 * counted s.number)) s.player.sample_rate
 
@@ -76,7 +77,7 @@ after_block s words (Ok r) =
     reply (session_of r.player (next_number s.number)) (block_text s.number r.keep_alive r.ended r.channels words)
 after_block s words (Err turned_down) = refused (session_of s.player (next_number s.number)) (number turned_down)
 
--- 'with rate and factor 1': the block output after the line, and the reply
+-- a block is played at rate 1 and factor 1: the block output after the line, and the reply
 unfoldable pub played_words : List ℕ → Session → List ℕ → List ℕ
 played_words samples s words = output 128 s.player words samples (block_time s) one one
 

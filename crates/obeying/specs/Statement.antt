@@ -1,4 +1,4 @@
--- The last number of a block that is counted is late enough.
+-- The last number of a block that is counted is late enough (docs/REFERENCE.md, 'trial').
 use Rattle.std.specs.Prelude.{◌≡◌, ℕ, ◌≤◌, true, List, length}
 use Rattle.buffer.specs.Limits.{valid_rate}
 use Rattle.buffer.specs.Refusals.{number}

@@ -1,4 +1,5 @@
-// What one line of `trial` does to the player and prints.
+//! What one line of `trial` does to the player and prints (docs/REFERENCE.md, 'trial'). A call that the
+//! player refuses prints `X` and the refusal's number, and a line that is no command `X 0`.
 #![tactic(auto)]
 
 ghost use Rattle.std.specs.Prelude.{◌≡◌, ◌≤◌, length};
@@ -13,14 +14,14 @@ use player::{ControlMessage, Player};
 use rounding::{BinaryFloat, whole};
 use text::BLOCK_ROOM;
 
-// The player, and the number of the next `B` line.
+/// The player, and the number of the next `B` line.
 #[derive(Clone, Copy)]
 pub struct Session {
     pub player: Player,
     pub number: usize,
 }
 
-// The session that a line leaves, and how many bytes it printed.
+/// The session that a line leaves, and how many bytes it printed.
 #[derive(Clone, Copy)]
 pub struct Answer {
     pub session: Session,
@@ -106,8 +107,7 @@ fn play(
     Answer { session, printed }
 }
 
-// Obeys a line where there is room for what it prints. The lent slices go one by one: in one struct each
-// contract would have to say that the others stay.
+// Obeys a line where there is room for what it prints.
 #[tactic(auto, unfolding(crate::specs::Obeying::obeyed, crate::specs::Obeying::done))]
 fn obey_line(
     session: Session,
@@ -140,8 +140,8 @@ fn obey_line(
     tell(session, message, out)
 }
 
-// Obeys a line: `samples` are the clip's, `words` takes the block, and `out` what is printed. None
-// where any block's text might lack room in the output, and then nothing is done.
+/// Obeys a line: `samples` are the clip's, `words` takes the block, and `out` what is printed. None
+/// where any block's text might lack room in the output, and then nothing is done.
 #[tactic(auto, using(crate::proofs::Lengths::obeyed_fits), unfolding(crate::specs::Obeying::answered, crate::specs::Obeying::words_after, crate::specs::Obeying::out_after))]
 pub fn obey(
     session: Session,
@@ -160,7 +160,7 @@ pub fn obey(
     Some(obey_line(session, line, samples, words, out))
 }
 
-// A block past the last number that is counted is refused with 13 at every allowed rate.
+/// A block past the last number that is counted is refused with 13 at every allowed rate.
 #[tactic(auto, using(crate::proofs::Late::late_blocks))]
 pub fn late_blocks()
     ensures { LateBlocks }

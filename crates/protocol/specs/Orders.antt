@@ -1,5 +1,5 @@
--- A line as an order (oracle/PROTOCOL.md). Definitions only. Each form has the protocol's words in their order, with a name for each; 'a line
--- of any other form is unknown', and 'so is a wrong count of words'.
+-- A line as an order (oracle/PROTOCOL.md). Definitions only. Each form has the protocol's words in their order, with a name for each; 'a
+-- line of any other form is unknown', and 'so is a wrong count of words'.
 use Rattle.std.specs.Prelude.{List, ℕ, Bool, cond, codes, bytes_eq, Float, Option, Some, None, Result, Ok}
 use Rattle.std.specs.Float.{binary32}
 use Rattle.std.specs.Float.Ieee.{of_bits}

@@ -1,4 +1,4 @@
-// The calls that wait for words.
+//! The calls that wait for words.
 ghost use Rattle.std.specs.Prelude.{◌≤◌};
 ghost use Rattle.protocol.specs.declared.calls.TheConstants.{ROOM};
 
@@ -7,13 +7,13 @@ use super::words::Words;
 use buffer::Shape;
 use tolerances::Tolerances;
 
-// The words that there is room for: of a clip, of a call and of a result. The protocol allows more.
+/// The words that there is room for: of a clip, of a call and of a result. The protocol allows more.
 pub const ROOM: usize = 262_144;
 
 // The rate of the buffers of a copy.
 const COPY_RATE: f32 = 48_000.0;
 
-// A copy between a channel of a buffer, from a frame on, and so many words.
+/// A copy between a channel of a buffer, from a frame on, and so many words.
 #[derive(Clone, Copy)]
 pub struct ChannelCopy {
     pub shape: Shape,
@@ -23,7 +23,7 @@ pub struct ChannelCopy {
     ghost fits: { len ≤ ROOM },
 }
 
-// A call that waits for its words.
+/// A call that waits for its words.
 #[derive(Clone, Copy)]
 pub enum Call {
     Clip(Shape),
@@ -38,7 +38,7 @@ impl Call {
     ghost use Rattle.std.specs.Prelude.{SomeIff};
     ghost use Rattle.protocol.specs.Calls.{HasShapesWithinLimits, words_of};
 
-    // The words that it waits for; none where a shape is outside the limits.
+    /// The words that it waits for; none where a shape is outside the limits.
     pub fn words(self) -> Option<usize>
         ensures { SomeIff result (HasShapesWithinLimits self) (words_of self) }
     {

@@ -1,5 +1,5 @@
-// The lines of oracle/PROTOCOL.md: what `replay` reads, as orders with their values and as the words
-// that a call waits for, and what it prints.
+//! The lines of oracle/PROTOCOL.md: what `replay` reads, as orders with their values and as the words
+//! that a call waits for, and what it prints.
 #![tactic(auto)]
 
 pub mod calls;

@@ -1,4 +1,4 @@
-// A word of a line as a number.
+//! A word of a line as a number.
 ghost use Rattle.std.specs.Prelude.{◌≤◌, SomeIff};
 ghost use Rattle.std.specs.Str.Parse.{digits_value};
 ghost use Rattle.protocol.specs.Numbers.{IsDecimal, IsHex};
@@ -6,7 +6,7 @@ ghost use Rattle.protocol.specs.Numbers.{IsDecimal, IsHex};
 // The most digits of a decimal number.
 const DECIMAL_DIGITS: usize = 19;
 
-// A decimal number. Std's `from_str_radix` takes a sign, and asks for a str.
+/// A decimal number. Std's `from_str_radix` takes a sign, and asks for a str.
 #[tactic(auto, using(crate::proofs::Digits::digit_at, crate::proofs::Digits::decimal_fits, std::proofs::lemmas::Int::Digits::digits_value_more, std::proofs::lemmas::Int::Digits::digits_more))]
 pub fn decimal(word: &[u8]) -> Option<usize>
     ensures { SomeIff result (IsDecimal word.now) (digits_value 10 word.now) }
@@ -35,7 +35,7 @@ fn hex(word: &[u8], count: usize) -> Option<u64>
     }
 }
 
-// The bits of an f32, or of an i32.
+/// The bits of an f32, or of an i32.
 #[tactic(auto, using(crate::proofs::Digits::eight_fit))]
 pub fn bits32(word: &[u8]) -> Option<u32>
     ensures { SomeIff result (IsHex 8 word.now) (digits_value 16 word.now) }
@@ -44,7 +44,7 @@ pub fn bits32(word: &[u8]) -> Option<u32>
     Some(bits as u32)
 }
 
-// The bits of an f64.
+/// The bits of an f64.
 pub fn bits64(word: &[u8]) -> Option<u64>
     ensures { SomeIff result (IsHex 16 word.now) (digits_value 16 word.now) }
 {

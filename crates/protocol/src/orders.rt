@@ -1,4 +1,4 @@
-// A line as an order: what it asks for, with its values.
+//! A line as an order: what it asks for, with its values.
 ghost use Rattle.std.specs.Prelude.{◌≤◌, IfSome};
 ghost use Rattle.std.specs.Option.{ForSome};
 ghost use Rattle.protocol.specs.declared.calls.TheConstants.{ROOM};
@@ -13,17 +13,18 @@ use tolerances::Tolerances;
 // The length of the output that a block is lent, where its line names none, and the most that it names.
 const OUTPUT: usize = 4_096;
 
+/// The longest output that a line may name, in words.
 pub const OUTPUT_MAX: usize = 65_536;
 
-// What a block's rate is multiplied by: a factor, or that of whole cents.
+/// What a block's rate is multiplied by: a factor, or that of whole cents.
 #[derive(Clone, Copy)]
 pub enum Speed {
     Factor(f64),
     Cents(i32),
 }
 
-// A block: its time, its rate, and the lengths of the output and of the samples that are lent (the
-// clip's, where the line names none).
+/// A block: its time, its rate, and the lengths of the output and of the samples that are lent (the
+/// clip's, where the line names none).
 #[derive(Clone, Copy)]
 pub struct Request {
     pub time: f64,
@@ -35,7 +36,7 @@ pub struct Request {
     ghost samples_fit: { ForSome samples (λ n. n ≤ ROOM) },
 }
 
-// A fresh player's tolerances and a conversion's are made where the line is read, and may be refused.
+/// A fresh player's tolerances and a conversion's are made where the line is read, and may be refused.
 #[derive(Clone, Copy)]
 pub enum Order {
     Fresh(f32, Result<Tolerances, Refusal>),
@@ -144,7 +145,7 @@ impl Order {
         })
     }
 
-    // The order that a line is; none where it is of no other form.
+    /// The order that a line is; none where it is of no other form.
     #[tactic(auto, unfolding(crate::specs::Orders::order))]
     pub fn read(line: &[u8]) -> Option<Order>
         ensures { option_map line_of result ≡ order (words line.now) }

@@ -1,11 +1,11 @@
-// A call that waits for its words.
+//! A call that waits for its words.
 ghost use Rattle.std.specs.Prelude.{◌≡◌, ◌+◌, ◌<◌, ◌≤◌, ◌↔◌, length, IfOk, IfSome, IfNone, IsTrue};
 ghost use Rattle.protocol.specs.declared.calls.TheConstants.{ROOM};
 
 use super::calls::{Call, ROOM};
 use super::words::Words;
 
-// A call, how many words it waits for, and how many of them are there.
+/// A call, how many words it waits for, and how many of them are there.
 #[derive(Clone, Copy)]
 pub struct Waiting {
     pub call: Call,
@@ -15,7 +15,7 @@ pub struct Waiting {
     ghost fits: { wanted ≤ ROOM },
 }
 
-// Why a call is turned down at once: a shape is outside the limits, or there is no room for its words.
+/// Why a call is turned down at once: a shape is outside the limits, or there is no room for its words.
 #[derive(Clone, Copy, Debug, PartialEq, Eq)]
 pub enum CallError {
     Shape,
@@ -42,7 +42,7 @@ fn stored(line: &[u8], room: &mut [u32]) -> Option<usize>
 impl Waiting {
     ghost use Rattle.protocol.specs.Calls.{HasShapesWithinLimits, words_of};
 
-    // A call, with none of its words.
+    /// A call, with none of its words.
     pub fn new(call: Call) -> Result<Waiting, CallError>
         ensures made { IfOk result (λ w. (w.call ≡ call) × (w.wanted ≡ words_of call) × (w.got ≡ 0)) }
         ensures shape { (result ≡ Err CallError.Shape) ↔ ¬ HasShapesWithinLimits call }
@@ -59,15 +59,15 @@ impl Waiting {
         })
     }
 
-    // Whether the words are all there.
+    /// Whether the words are all there.
     pub fn is_complete(&self) -> bool
         ensures { IsTrue result ↔ (self.now.got ≡ self.now.wanted) }
     {
         self.got == self.wanted
     }
 
-    // Takes the words of a `W` line into their places, and answers how many; none where the line is no
-    // such line or has more words than are missing.
+    /// Takes the words of a `W` line into their places, and answers how many; none where the line is no
+    /// such line or has more words than are missing.
     pub fn take(&mut self, line: &[u8], room: &mut [u32; ROOM]) -> Option<usize>
         ensures same { (self.new.call ≡ self.old.call) × (self.new.wanted ≡ self.old.wanted) }
         ensures taken { IfSome result (λ n. (0 < n) × (self.new.got ≡ self.old.got + n)) }

@@ -1,4 +1,4 @@
-// The words of a line, one after another.
+//! The words of a line, one after another.
 
 use super::numbers::{bits32, bits64, decimal};
 use buffer::{Refusal, Shape};
@@ -26,7 +26,7 @@ impl<'a> Words<'a> {
         Words { rest: Some(line) }
     }
 
-    // Whether no word is left.
+    /// Whether no word is left.
     #[tactic(auto, using(crate::proofs::Cuts::some_word), unfolding(crate::specs::Words::words_of_rest))]
     pub fn is_empty(&self) -> bool
         ensures { result ≡ eqb (length (left self.now)) 0 }
@@ -34,7 +34,7 @@ impl<'a> Words<'a> {
         self.rest.is_none()
     }
 
-    // The next word.
+    /// The next word.
     #[tactic(auto, unfolding(crate::specs::Words::words_of_rest, crate::specs::Words::behind, crate::specs::Words::one))]
     pub fn word(&mut self) -> Option<&'a [u8]>
         ensures { Takes (λ w. w.now) Some self.old result self.new }
@@ -59,7 +59,7 @@ impl<'a> Words<'a> {
         decimal(self.word()?)
     }
 
-    // A decimal number up to a bound.
+    /// A decimal number up to a bound.
     #[tactic(auto, unfolding(crate::specs::Words::one, crate::specs::Numbers::decimal_up_to))]
     pub fn up_to(&mut self, most: usize) -> Option<usize>
         ensures within { IfSome result (λ n. n ≤ most) }
@@ -106,7 +106,7 @@ impl<'a> Words<'a> {
         Some(f64::from_pattern(bits))
     }
 
-    // A shape and its rate.
+    /// A shape and its rate.
     #[tactic(auto, unfolding(crate::specs::Orders::shape))]
     pub fn shape(&mut self) -> Option<Shape>
         ensures { Gives (λ s. s) result (left self.new) (shape (left self.old)) }
@@ -118,7 +118,7 @@ impl<'a> Words<'a> {
         })
     }
 
-    // Tolerances, made at once: near, near zero and relabel; the defaults where no word is left.
+    /// Tolerances, made at once: near, near zero and relabel; the defaults where no word is left.
     #[tactic(auto, unfolding(crate::specs::Orders::tolerances))]
     pub fn tolerances(&mut self) -> Option<Result<Tolerances, Refusal>>
         ensures { Gives (λ t. t) result (left self.new) (tolerances (left self.old)) }
@@ -129,7 +129,7 @@ impl<'a> Words<'a> {
         Some(Tolerances::new(self.f64()?, self.f64()?, self.f32()?))
     }
 
-    // `0` or `1`.
+    /// `0` or `1`.
     #[tactic(auto, unfolding(crate::specs::Words::one, crate::specs::Numbers::flag_word))]
     pub fn flag(&mut self) -> Option<bool>
         ensures { Takes (λ x. x) flag_word self.old result self.new }

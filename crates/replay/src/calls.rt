@@ -1,4 +1,4 @@
-// The calls of `buffer` and `reshape`, made once their words are there.
+//! The calls of `buffer` and `reshape`, made once their words are there.
 use super::failure::Failure;
 use buffer::Shape;
 use protocol::calls::{ChannelCopy, ROOM};

@@ -1,10 +1,10 @@
-// Why an order is not carried out.
+//! Why an order is not carried out.
 use buffer::Refusal;
 use protocol::waiting::CallError;
 use std::io;
 
-// An order that is unknown or for which there is no room, one that the core refuses, and an answer
-// that can't be written.
+/// An order that is unknown or for which there is no room, one that the core refuses, and an answer
+/// that can't be written.
 #[derive(Clone, Copy)]
 pub enum Failure {
     Unknown,

@@ -1,10 +1,10 @@
-// The lines of an input.
+//! The lines of an input.
 ghost use Rattle.std.specs.Prelude.{◌≡◌, ◌≤◌, length, IfOk};
 
 use std::io;
 use std::io::Read;
 
-// How much of the input is held. A longer line counts as lines of this length.
+/// How much of the input is held. A longer line counts as lines of this length.
 pub const PIECE: usize = 65_536;
 
 // Where the line stands in a piece, and where what was read ends.
@@ -17,8 +17,8 @@ struct Place {
     ghost within: { to ≤ 65536 },
 }
 
-// A piece of the input, a line of it, and whether it is the last piece. Std's `BufRead` hands lines out
-// on the heap, of which there is none here.
+/// A piece of the input, a line of it, and whether it is the last piece. Std's `BufRead` hands lines out
+/// on the heap, of which there is none here.
 #[derive(Drop)]
 pub struct Lines {
     piece: [u8; PIECE],
@@ -27,8 +27,7 @@ pub struct Lines {
 }
 
 // Reads until `bytes` is full or the input ends, and answers how many bytes it read: std's `read_exact`
-// doesn't say how much an input has that ends before. A failed read is returned here; trial, which has a
-// `read_full` of its own, goes on with what it read until then.
+// doesn't say how much an input has that ends before. A failed read is returned.
 fn read_full(input: &mut impl Read, bytes: &mut [u8]) -> io::Result<usize>
     ensures { IfOk result (λ n. n ≤ length bytes.old) }
 {

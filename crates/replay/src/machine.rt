@@ -1,4 +1,4 @@
-// A player, its clip, and what the lines make of them.
+//! A player, its clip, and what the lines make of them.
 ghost use Rattle.std.specs.Prelude.{◌≤◌, length};
 
 use super::calls::{convert, copy_from, copy_to, extend, split};
@@ -14,7 +14,7 @@ use protocol::waiting::Waiting;
 use std::io;
 use tolerances::Tolerances;
 
-// The memory that is lent: for the clip, for the words of a call, and for an output or a result.
+/// The memory that is lent: for the clip, for the words of a call, and for an output or a result.
 #[derive(Drop)]
 pub struct Memory<'a> {
     pub clip: &'a mut [u32; ROOM],
@@ -31,7 +31,7 @@ struct Loaded {
     ghost fits: { clip ≤ 262144 },
 }
 
-// The player, if an `R` line made one, and the call that waits for its words, if one does.
+/// The player, if an `R` line made one, and the call that waits for its words, if one does.
 #[derive(Clone, Copy)]
 pub struct Machine {
     loaded: Option<Loaded>,

@@ -1,7 +1,7 @@
-// The subject of the differential runs: obeys the lines of oracle/PROTOCOL.md from standard input,
-// over the calls of player, cents, preview and buffer, and prints the answers. All memory is lent by
-// `main`, but for the rest of a split and a line that is printed: a clip, the words of a call and a
-// result have room for 262,144 words each, and what does not fit prints `X 0` (oracle/README.md).
+//! The subject of the differential runs: obeys the lines of oracle/PROTOCOL.md from standard input,
+//! over the calls of player, cents, preview and buffer, and prints the answers. All memory is lent by
+//! `main`, but for the rest of a split and a line that is printed: a clip, the words of a call and a
+//! result have room for 262,144 words each, and what does not fit prints `X 0` (oracle/README.md).
 #![tactic(auto)]
 
 mod calls;

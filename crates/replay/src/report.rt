@@ -1,4 +1,4 @@
-// What a block and a player print.
+//! What a block and a player print.
 use player::Player;
 use preview::Coming;
 use protocol::print::{Bits, put_channels};

@@ -1,25 +1,24 @@
 -- What is written of what was printed, and what a run has written so far. Assumes nothing.
 use mathlib.Core.Path.{◌≡◌, refl, sym, ap, subst, ◌∙◌}
 use mathlib.Core.Bool.{Bool, true, false}
-use mathlib.Core.List.{List, [], ◌∷◌, ◌++◌, append_assoc, append-nil}
-use Prim.Native.Nat.{ℕ, ◌+◌, ◌-◌, ◌≤◌}
+use mathlib.Core.List.{List, [], ◌++◌, append_assoc, append-nil}
+use Prim.Native.Nat.{ℕ, ◌+◌, ◌≤◌}
 use native.Mathlib.Omega.{arith}
 use borrow.Author.Tests.{le-leb}
 use lib.ListN.{length, take, drop, take-append-drop}
 use lib.Seq.{sets, sets-eq, take-append_seam}
-use Rattle.std.specs.Prelude.{Option, Some, None, IfSome, Result, Ok, Err, OnOk, OnErr, nat_le}
+use Rattle.std.specs.Prelude.{Option, Some, None, IfSome, Result, Ok, Err, OnOk, OnErr}
 use Rattle.std.specs.Io.KnownBytes.{Appends, Consumes, IsAtEnd}
 use Rattle.text.specs.Lines.{block_room}
 use Rattle.obeying.specs.Obeying.{Outcome, has_room, answered, out_after, answer_of}
 use Rattle.obeying.specs.declared.Session.{Session}
 use Rattle.obeying.specs.declared.Answer.{Answer}
-use Rattle.session.specs.declared.State.{State}
 use Rattle.session.specs.declared.Fed.{Fed}
 use Rattle.session.specs.Feeding.{Run, run, run_of, fed, finished, after, spoken, fed_of}
 use Rattle.session.specs.Transcript.{transcript, no_words}
 use Rattle.session.specs.Running.{AppendsFront, Ran}
 use Rattle.session.proofs.Chunks.{after-append, spoken_append, fed_run, fed_text, spoken_lines, none_kept}
-use Rattle.session.proofs.KnownBytes.{appends_none, appends_then, consumes_then, consumes_front, consumes_whole, all_front, front_then, front_more}
+use Rattle.session.proofs.KnownBytes.{appends_then, consumes_front, consumes_whole, all_front, front_then, front_more}
 
 -- a text that was stored at the start of a slice
 pub take_sets : (l t : List ℕ) → length t ≤ length l → take (length t) (sets l 0 t) ≡ t
@@ -91,7 +90,7 @@ module _ (samples : List ℕ) where
   ran_more start now next a b u v w ran grown reached =
       record {
         grown = subst (Appends u w) (ap (λ (q : Run). spoken samples start a ++ spoken samples q b) ran.carried ∙ sym (spoken_append samples start a b))
-        (appends_then u v w _ _ ran.grown grown);
+            (appends_then u v w _ _ ran.grown grown);
         carried = reached ∙ ap (λ (q : Run). after samples q b) ran.carried ∙ sym (after-append samples start a b);
       }
 

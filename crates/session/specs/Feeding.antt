@@ -1,4 +1,4 @@
--- The bytes of an input, taken one after another, and a last line that lacks its newline (document 01, '`trial`'). Definitions only.
+-- The bytes of an input, taken one after another, and a last line that lacks its newline (docs/REFERENCE.md, 'trial'). Definitions only.
 use Rattle.std.specs.Prelude.{Bool, ◌&&◌, cond, List, [], ◌∷◌, ◌++◌, ℕ, ◌+◌, ◌≤◌, leb, ltb, eqb, length, take, set}
 use Rattle.text.specs.Lines.{NEWLINE, block_room}
 use Rattle.obeying.specs.Obeying.{reply, Outcome, outcome, obeyed}

@@ -1,4 +1,4 @@
--- What the bytes of an input do to the player and print (document 01, '`trial`').
+-- What the bytes of an input do to the player and print (docs/REFERENCE.md, 'trial').
 pub mod Feeding
 pub mod Transcript
 pub mod Running

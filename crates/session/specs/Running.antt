@@ -1,5 +1,5 @@
--- What a run does to the bytes that are left of its reader and those that its writer holds, where they are known (docs/REFERENCE.md, 'trial'). Definitions
--- only.
+-- What a run does to the bytes that are left of its reader and those that its writer holds, where they are known
+-- (docs/REFERENCE.md, 'trial'). Definitions only.
 use Rattle.std.specs.Prelude.{◌≡◌, List, ◌++◌, ℕ, Option}
 use Rattle.std.specs.Io.KnownBytes.{Appends}
 use Rattle.session.specs.Feeding.{Run, after, spoken}

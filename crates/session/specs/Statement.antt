@@ -1,5 +1,5 @@
--- What holds of a whole run: however an input is cut into chunks, and wherever `feed` stops for want of room, what is printed is the transcript of the
--- input.
+-- What holds of a whole run (docs/REFERENCE.md, 'trial'): however an input is cut into chunks, and wherever `feed` stops for want of room,
+-- what is printed is the transcript of the input.
 use Rattle.std.specs.Prelude.{◌≡◌, List, [], ◌∷◌, ◌++◌, cond, ℕ, zero, suc, ◌≤◌, eqb, length, take, drop}
 use Rattle.text.specs.Lines.{block_room}
 use Rattle.session.specs.Feeding.{Run, run, fed, finished}

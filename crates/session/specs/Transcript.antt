@@ -1,4 +1,5 @@
--- The lines of an input, and the text of a whole run (document 01, '`trial`': 'then obeys lines of standard input'). Definitions only.
+-- The lines of an input, and the text of a whole run (docs/REFERENCE.md, 'trial'): the lines are obeyed one after another. Definitions
+-- only.
 use Rattle.std.specs.Prelude.{cond, List, [], ◌∷◌, ◌++◌, ℕ, eqb, length, replicate}
 use Rattle.text.specs.Lines.{NEWLINE}
 use Rattle.obeying.specs.Obeying.{obeyed}

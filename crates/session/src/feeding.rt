@@ -1,4 +1,4 @@
-// The bytes of the input, one after another.
+//! The bytes of the input, one after another.
 ghost use Rattle.std.specs.Prelude.{◌≡◌, ◌≤◌, length, set};
 ghost use Rattle.std.proofs.lemmas.List.Edits.{sets};
 ghost use Rattle.text.specs.Lines.{block_room};
@@ -65,9 +65,8 @@ fn take_byte(
     }
 }
 
-// Takes the bytes of `input` until they are used up or `out` lacks room: `line` holds the line so
-// far, `samples` are the clip's, `words` takes the blocks, and `out` what is printed. In one
-// struct of lent slices each contract would have to say that the others stay.
+/// Takes the bytes of `input` until they are used up or `out` lacks room: `line` holds the line so
+/// far, `samples` are the clip's, `words` takes the blocks, and `out` what is printed.
 #[tactic(auto, using(crate::proofs::Bytes::said_fits, crate::proofs::Bytes::step_fits, crate::proofs::Bytes::reached_length, crate::proofs::Bytes::reached_more, crate::proofs::Chunks::fed_moves))]
 pub fn feed(
     start: State,
@@ -105,8 +104,8 @@ pub fn feed(
     }
 }
 
-// Obeys a last line that lacks its newline. None where any block's text might lack room in the
-// output, and then nothing is done.
+/// Obeys a last line that lacks its newline. None where any block's text might lack room in the
+/// output, and then nothing is done.
 #[tactic(auto, using(crate::proofs::Bytes::take_min), unfolding(crate::specs::Feeding::finished, crate::specs::Feeding::line_obeyed, obeying::specs::Obeying::answered, obeying::specs::Obeying::words_after, obeying::specs::Obeying::out_after))]
 pub fn finish(
     state: State,

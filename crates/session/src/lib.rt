@@ -1,5 +1,6 @@
-// A run of `trial` after its clip is read: how an input that comes in chunks is cut into lines,
-// each of which is obeyed (the crate `obeying`).
+//! A run of `trial` after its clip is read (docs/REFERENCE.md, 'trial'): how an input that comes in
+//! chunks is cut into lines, each of which is obeyed (the crate `obeying`), and the same over a
+//! reader and a writer.
 #![tactic(auto)]
 
 mod feeding;
@@ -11,23 +12,22 @@ pub use feeding::{feed, finish};
 use obeying::Session;
 pub use running::{run, write_front};
 
-// What is carried from byte to byte of the input: the session, and the length of the line so far.
-// The line's bytes stand in a slice of any length that the caller lends: a buffer of its own
-// would promise less.
+/// What is carried from byte to byte of the input: the session, and the length of the line so far.
+/// The line's bytes stand in a slice that the caller lends.
 #[derive(Drop)]
 pub struct State {
     pub session: Session,
     pub len: usize,
 }
 
-// The state after a byte of the input, and how many bytes were printed.
+/// The state after a byte of the input, and how many bytes were printed.
 #[derive(Drop)]
 pub struct Taken {
     pub state: State,
     pub printed: usize,
 }
 
-// The state after some bytes of the input, how many were taken, and how many bytes were printed.
+/// The state after some bytes of the input, how many were taken, and how many bytes were printed.
 #[derive(Drop)]
 pub struct Fed {
     pub state: State,
@@ -35,8 +35,8 @@ pub struct Fed {
     pub printed: usize,
 }
 
-// However an input is cut into chunks, what `feed` and `finish` print is the transcript of its
-// lines.
+/// However an input is cut into chunks, what `feed` and `finish` print is the transcript of its
+/// lines.
 #[tactic(auto, using(crate::proofs::Chunks::chunks_told))]
 pub fn transcript_of_chunks()
     ensures { TranscriptOfChunks }

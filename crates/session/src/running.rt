@@ -129,7 +129,15 @@ pub fn run<R: Read, W: Write>(
         if n == 0 {
             return close(state, output, samples, &line, &mut words, &mut out);
         }
-        state = feed_all(state, &bytes[..n], output, samples, &mut line, &mut words, &mut out)?;
+        state = feed_all(
+            state,
+            &bytes[..n],
+            output,
+            samples,
+            &mut line,
+            &mut words,
+            &mut out,
+        )?;
     }
     Err(ErrorKind::TimedOut.into())
 }

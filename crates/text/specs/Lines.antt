@@ -1,4 +1,4 @@
--- The lines that are printed: a block with its runs of equal bits, and a refusal (document 01, '`trial`'). Definitions only.
+-- The lines that are printed: a block with its runs of equal bits, and a refusal (docs/REFERENCE.md, 'trial'). Definitions only.
 use Rattle.std.specs.Prelude.{Bool, ◌&&◌, cond, List, [], ◌∷◌, ◌++◌, ℕ, zero, suc, ◌+◌, ◌*◌, leb, eqb, length, take, drop, Option, Some, None}
 use Rattle.std.proofs.lemmas.List.Edits.{sets}
 use Rattle.commands.specs.Digits.{SPACE, flag, hex, decimal}
@@ -10,7 +10,7 @@ NEWLINE = 10
 unfoldable pub field : ℕ → ℕ → List ℕ
 field v after = decimal v ++ (after ∷ [])
 
--- 'for each run of equal bits: channel, first index, count, bits in hex'
+-- a run of equal words: the channel, the run's first index and length, and the word's eight hex digits
 unfoldable pub run_line : ℕ → ℕ → ℕ → ℕ → List ℕ
 run_line channel first count bits = field channel SPACE ++ (field first SPACE ++ (field count SPACE ++ (hex 8 bits ++ (NEWLINE ∷ []))))
 
@@ -30,7 +30,7 @@ unfoldable pub channel_lines : ℕ → ℕ → List ℕ → List ℕ
 channel_lines zero c words = []
 channel_lines (suc n) c words = runs c 0 (take 128 words) ++ channel_lines n (c + 1) (drop 128 words)
 
--- '`B`, block number, keep-alive, ended, channels'
+-- the first line of a block: `B`, its number, whether to keep alive, whether it ended, and its channels; a flag is 0 or 1
 unfoldable pub block_line : ℕ → Bool → Bool → ℕ → List ℕ
 block_line number keep ended channels =
     66 ∷ SPACE ∷ (field number SPACE ++ (field (flag keep) SPACE ++ (field (flag ended) SPACE ++ field channels NEWLINE)))
@@ -38,7 +38,7 @@ block_line number keep ended channels =
 unfoldable pub block_text : ℕ → Bool → Bool → ℕ → List ℕ → List ℕ
 block_text number keep ended channels words = block_line number keep ended channels ++ channel_lines channels 0 words
 
--- 'A refusal prints `X` and its number'; 0 is that of an unknown line
+-- a refusal: `X` and its number, which is 0 for an unknown line
 unfoldable pub refusal_text : ℕ → List ℕ
 refusal_text number = 88 ∷ SPACE ∷ field number NEWLINE
 

@@ -1,4 +1,5 @@
--- A text as it is stored into a lent slice, byte after byte. Definitions only.
+-- A text as it is stored into a lent slice, byte after byte: how the lines of docs/REFERENCE.md, 'trial', come into memory. Definitions
+-- only.
 use Rattle.std.specs.Prelude.{◌≡◌, cond, List, [], ◌∷◌, ℕ, ◌+◌, ltb, length, set}
 use Rattle.text.specs.declared.printing.Text.{Text}
 

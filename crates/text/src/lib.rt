@@ -1,4 +1,4 @@
-// The text of `trial`: the bytes that it prints.
+//! The text of `trial`: the bytes that it prints of a block and of a refusal (docs/REFERENCE.md, 'trial').
 #![tactic(auto)]
 
 mod lines;

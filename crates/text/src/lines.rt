@@ -1,11 +1,11 @@
-// The lines that are printed.
+//! The lines that are printed.
 ghost use Rattle.std.specs.Prelude.{◌≡◌, leb, length};
 ghost use Rattle.text.specs.Lines.{NEWLINE, field, run_line, runs, channel_lines, block_line, block_text, refusal_text, fits, printed, printed_out};
 ghost use Rattle.text.specs.Stored.{Prints};
 
 use super::printing::Text;
 
-// The bytes that any block's text needs at most: 72 for the line of each of 32 × 128 words.
+/// The bytes that any block's text needs at most: 72 for the line of each of 32 × 128 words.
 pub const BLOCK_ROOM: usize = 295_040;
 
 const SPACE: u8 = b' ';
@@ -86,8 +86,8 @@ impl Text<'_> {
     }
 }
 
-// Prints a block: its number, its flags and channels, and for each channel the runs of equal bits.
-// None where a slice lacks its length, or room for any text of a block.
+/// Prints a block: its number, its flags and channels, and for each channel the runs of equal bits.
+/// None where a slice lacks its length, or room for any text of a block.
 #[tactic(auto, using(crate::proofs::Texts::put_whole, crate::proofs::Lengths::length_block), unfolding(crate::specs::Lines::fits, crate::specs::Lines::printed, crate::specs::Lines::printed_out))]
 pub fn block_text(
     number: usize,
@@ -110,7 +110,7 @@ pub fn block_text(
     Some(text.len())
 }
 
-// Prints a refusal: any number, as 0 is that of a line which is no command.
+/// Prints a refusal: any number, as 0 is that of a line which is no command.
 #[tactic(auto, using(crate::proofs::Texts::put_whole, crate::proofs::Lengths::length_refusal), unfolding(crate::specs::Lines::printed, crate::specs::Lines::printed_out))]
 pub fn refusal_text(number: u32, out: &mut [u8]) -> Option<usize>
     ensures { (result ≡ printed (leb 23 (length out.old)) (refusal_text number))
@@ -124,7 +124,7 @@ pub fn refusal_text(number: u32, out: &mut [u8]) -> Option<usize>
     Some(text.len())
 }
 
-// Prints a number on a line of its own.
+/// Prints a number on a line of its own.
 #[tactic(auto, using(crate::proofs::Texts::put_whole, crate::proofs::Lengths::length_field), unfolding(crate::specs::Lines::printed, crate::specs::Lines::printed_out))]
 pub fn number_line(v: usize, out: &mut [u8]) -> Option<usize>
     ensures { (result ≡ printed (leb 21 (length out.old)) (field v NEWLINE))

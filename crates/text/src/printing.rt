@@ -1,5 +1,5 @@
-// A text as it is printed into a lent slice, byte after byte. By hand, and not by `write!`: each
-// byte is promised, and std states no bytes of `{:08X}`, nor that a `write!` succeeds.
+//! A text as it is printed into a lent slice, byte after byte. By hand, and not by `write!`: each
+//! byte is promised, and std states no bytes of `{:08X}`, nor that a `write!` succeeds.
 ghost use Rattle.std.specs.Prelude.{◌≡◌, ◌<◌, [], ◌∷◌};
 ghost use Rattle.commands.specs.Digits.{digit, hex, decimal};
 ghost use Rattle.text.specs.Lines.{field};

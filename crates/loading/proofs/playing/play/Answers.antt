@@ -1,5 +1,5 @@
 -- By hand: the samples of the clip that was sent.
-use Rattle.std.proofs.Common.{rules, ◌≡◌, ◌≤◌, length, take, subst, refl, OnOk, OnErr, IfSome, ℕ, List, replicate, Ok}
+use Rattle.std.proofs.Common.{◌≡◌, length, take, subst, ℕ, List, replicate}
 use Rattle.std.specs.Io.KnownBytes.{Appends}
 use lib.ListN.{length-replicate}
 use Rattle.obeying.specs.Obeying.{session_of}

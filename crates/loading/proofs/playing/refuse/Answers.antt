@@ -1,5 +1,5 @@
 -- By hand: any refusal's text fits the lent bytes.
-use Rattle.std.proofs.Common.{rules, arith, ◌≡◌, ◌≤◌, length, take, subst, sym, refl, ap, ◌∙◌, OnOk, OnErr, ℕ, List, replicate, length-take-le}
+use Rattle.std.proofs.Common.{rules, subst, sym, ap, ◌∙◌, OnOk, OnErr, replicate, length-take-le}
 use Rattle.std.specs.Io.KnownBytes.{Appends}
 use Rattle.session.specs.Running.{AppendsFront}
 use Rattle.text.specs.Lines.{refusal_text}

@@ -1,5 +1,5 @@
 -- By hand: what was printed is the front of the lent output.
-use Rattle.std.proofs.Common.{◌≡◌, rules, length, ◌≤◌, take, subst, OnOk, OnErr, sym}
+use Rattle.std.proofs.Common.{subst, OnOk, OnErr}
 use Rattle.std.specs.Io.KnownBytes.{Appends}
 use Rattle.session.specs.Running.{AppendsFront}
 use Rattle.session.proofs.Written.{last_written, never_none}

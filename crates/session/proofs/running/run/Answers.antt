@@ -1,9 +1,6 @@
 -- By hand: what was read was taken, and the rest of the input comes behind it.
-use Rattle.std.proofs.Common.{rules, ◌≡◌, ℕ, List, [], ◌∷◌, ◌++◌, ◌≤◌, length, take, replicate, refl, sym, subst, OnOk, OnErr, IfSome}
-use Rattle.std.specs.Io.KnownBytes.{Appends, Consumes, IsAtEnd}
-use Rattle.session.specs.Feeding.{run, run_of, after, spoken}
-use Rattle.session.specs.Transcript.{no_words}
-use Rattle.session.specs.Running.{AppendsFront, Ran}
+use Rattle.std.proofs.Common.{rules, [], ◌++◌, take, replicate, refl, sym}
+use Rattle.session.specs.Feeding.{after, spoken}
 use Rattle.session.proofs.KnownBytes.{appends_none, consumes_none, consumes_then, consumes_end}
 use Rattle.session.proofs.Written.{ran_more, cut_more, ran_cut, whole_told, last_cut, front_told, on_err, on_err_map, on_ok_map}
 use Rattle.session.proofs.running.run.Goals as goal

@@ -1,7 +1,6 @@
 -- By hand: what is gone from the text, as a front of it.
-use Rattle.std.proofs.Common.{◌≡◌, ℕ, ◌-◌, List, [], ◌++◌, rules, length, take, drop, sym, ap, ◌∙◌, subst, append_assoc, append-nil, take-append-drop, drop_of_length-le}
+use Rattle.std.proofs.Common.{◌≡◌, ℕ, ◌-◌, List, ◌++◌, length, take, drop, sym, ap, ◌∙◌, append_assoc, take-append-drop}
 use Rattle.std.proofs.lemmas.List.{take_rest}
-use Rattle.std.specs.Io.KnownBytes.{Appends}
 use Rattle.session.proofs.KnownBytes.{appends_then, appends_kept}
 use Rattle.session.proofs.running.write_front.Goals.{in-Ok, in-Err+else-ne}
 use Rattle.session.proofs.running.write_front.Goals as goal
