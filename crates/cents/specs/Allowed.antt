@@ -1,4 +1,4 @@
--- The factor of accepted cents is one that a block may have. Assumes nothing.
+-- The factor of accepted cents is one that a block may have (docs/REFERENCE.md, 'Detune in cents'). Assumes nothing.
 use mathlib.Core.Path.{◌≡◌, refl}
 use mathlib.Core.Bool.{true, false}
 use lib.IntN.{ℤ, pos, negsuc}

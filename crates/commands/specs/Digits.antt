@@ -1,4 +1,4 @@
--- Numbers as digits, in bytes; a space, and a flag as a number. Definitions only.
+-- Numbers as digits, in bytes; a space, and a flag as a number (docs/REFERENCE.md, 'trial'). Definitions only.
 use Rattle.std.specs.Prelude.{Bool, ◌&&◌, cond, List, [], ◌∷◌, ◌++◌, ℕ, zero, suc, ◌+◌, ◌-◌, ◌*◌, ◌/◌, ◌%◌, ◌^◌, leb, ltb, eqb, length, Option, Some, None, option_and_then}
 
 abbrev pub SPACE : ℕ

@@ -1,4 +1,5 @@
--- Cents counted from the lowest that is accepted, as the code counts them: −12,000 is 0 and 12,000 is 24,000.
+-- Cents counted from the lowest that is accepted, as the code counts them: −12,000 is 0 and 12,000 is 24,000
+-- (docs/REFERENCE.md, 'Detune in cents').
 use Rattle.std.specs.Prelude.{cond, ℕ, ◌+◌, ◌-◌, ℤ, pos, negsuc, Option, Some, None}
 use Rattle.detune.specs.Detune.{bad_cents}
 

@@ -1,4 +1,4 @@
--- Where the f32 nearest to an f64 stays the same for the f64 values around it. Definitions only.
+-- Where the f32 nearest to an f64 stays the same for the f64 values around it (docs/REFERENCE.md, 'Rounding'). Definitions only.
 use Rattle.std.specs.Prelude.{ℕ, ◌+◌, ◌*◌, ◌^◌, ◌<◌, ◌≤◌}
 
 -- b is the pattern of an f64 in the f32's normal range, and not negative; r is the f32 pattern nearest to it,

@@ -1,4 +1,4 @@
--- A number shifted right, with one digit more that says whether anything was lost. Definitions only.
+-- A number shifted right, with one digit more that says whether anything was lost (docs/REFERENCE.md, 'Rounding'). Definitions only.
 use Rattle.std.specs.Prelude.{◌≡◌, ℕ, ◌+◌, ◌-◌, ◌*◌, ◌/◌, ◌%◌, ◌^◌, ◌<◌, ◌≤◌, ◌⊎◌}
 use Rattle.rounding.specs.Sticky.{some}
 

@@ -1,4 +1,5 @@
--- Where a * b + c lies close to a tie of two f32 values: its digits, worked out in whole numbers. Definitions only.
+-- Where a * b + c lies close to a tie of two f32 values: its digits, worked out in whole numbers (docs/REFERENCE.md, 'Rounding').
+-- Definitions only.
 use Rattle.std.specs.Prelude.{◌≡◌, ℕ, ◌+◌, ◌-◌, ◌*◌, ◌/◌, ◌%◌, ◌^◌, ◌<◌, ◌≤◌, Bool, cond}
 use Rattle.std.specs.Float.{binary64}
 use Rattle.std.specs.Float.Ieee.Nearest.{closest}

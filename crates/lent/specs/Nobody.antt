@@ -1,5 +1,5 @@
--- The player of a refused rate, and that it never plays, as one claim about the definitions: it holds a buffer of no channels, every
--- call leaves it so, and every block of such a player is refused.
+-- The player of a refused rate, and that it never plays (docs/REFERENCE.md, 'Refusals'), as one claim about the definitions: it holds a
+-- buffer of no channels, every call leaves it so, and every block of such a player is refused.
 use Rattle.std.specs.Prelude.{◌≡◌, true, false, ℕ, ◌≤◌, ℤ, Float, Result}
 use Rattle.std.specs.Float.{binary32}
 use Rattle.std.specs.Float.Ieee.{of_bits}
