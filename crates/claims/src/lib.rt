@@ -1,6 +1,7 @@
 //! Statements about every list of calls on one player, about conversions, and about the tolerances
-//! (docs/REFERENCE.md). Each function here has an empty body: its contract is a statement, which the
-//! check proves by the function's name.
+//! (docs/REFERENCE.md, 'The long run', 'The loop switch', 'Conversion' and 'Near tests and tolerances').
+//! Each function here only carries its contract, which is a statement: what it says is proved for the
+//! definitions of the crates below, and the check names it.
 #![tactic(auto)]
 
 ghost use Rattle.claims.specs.ByHand.{ByHand};
