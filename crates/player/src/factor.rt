@@ -23,6 +23,7 @@ impl Factor {
 
     /// Refuses a NaN and what lies outside 2^-64 to 2^64, with 14, a bad speed.
     #[tactic(auto, using(crate::proofs::Limits::slowest_bits, crate::proofs::Limits::fastest_bits))]
+    #[inline(always)]
     pub fn new(value: f64) -> Result<Factor, Refusal>
         ensures checked { passed result ≡ check (is_factor value) refused.Speed }
         ensures made { IfOk result (λ it. it.value ≡ value) }

@@ -1,3 +1,4 @@
+-- `aligned::last_wrap_of_loop`: the last wrap of the whole block. Assumes nothing.
 -- By hand: with laws named on the function `returns` is not proved.
 use Rattle.std.proofs.Common.{◌≡◌, ◌∙◌, true, ap, arith}
 use Rattle.aligned.specs.Aligned.{last_wrap}

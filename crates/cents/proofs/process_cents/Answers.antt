@@ -1,18 +1,17 @@
 -- `cents::process_cents` meets its contract.
 -- By hand: what `process_by` promises is asked for the cents, or for their refusal.
-use mathlib.Core.Path.{◌≡◌, subst}
-use lib.IntN.{ℤ}
-use lib.ListN.{length}
-use mir.Syntax.{w32}
-use mir.Facts.{to_z-of_z}
-use Rattle.cents.specs.Cents.{rendered_cents, output_cents}
+use Rattle.std.proofs.Common.{rules}
+use Rattle.std.specs.Prelude.{◌≡◌, not, IfOk}
+use Rattle.buffer.specs.Answers.{check, passed}
+use Rattle.buffer.specs.declared.refusals.Refusal.TheVariants as rows
+use Rattle.detune.specs.Detune.{bad_cents}
 use Rattle.cents.proofs.Answered.{by_cents}
 use Rattle.cents.proofs.process_cents.Goals as goal
 
 pub returns : goal.returns
 returns c =
     let a = c.args in
-    let block = by_cents (λ it. it.whole) a.p c.new.result c.process_by.result a.out.now c.process_by.new.out a.samples.now a.time a.rate _
-    c.process_by.ensures.accepted c.process_by.ensures.refused c.new.ensures.checked c.new.ensures.made in
-    subst (λ (z : ℤ). (c.process_by.result ≡ rendered_cents 128 a.p (length a.out.now) (length a.samples.now) a.time a.rate z)
-    × (c.process_by.new.out ≡ output_cents 128 a.p a.out.now a.samples.now a.time a.rate z)) (to_z-of_z {w = w32} {z = a.cents} c.ranges.cents) block
+    let found : passed c.new.result ≡ check (not (bad_cents a.cents)) rows.Cents = search rules in
+    let made : IfOk c.new.result (λ it. it.whole ≡ a.cents) = search rules in
+    by_cents (λ it. it.whole) a.p c.new.result c.process_by.result a.out.now c.process_by.new.out a.samples.now a.time a.rate a.cents
+    c.process_by.ensures.accepted c.process_by.ensures.refused found made

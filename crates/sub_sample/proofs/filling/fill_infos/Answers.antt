@@ -1,3 +1,4 @@
+-- `sub_sample::filling::fill_infos`: the arrays are filled to their ends. Assumes nothing.
 -- By hand: with laws named on the function `returns` is not proved.
 use Rattle.std.proofs.Common.{◌≡◌, ◌∙◌, ap, arith}
 use Rattle.lists.specs.Table.{filled_end}
