@@ -31,7 +31,7 @@ number refused.Empty = 12
 number refused.Time = 13
 -- block: rate not finite; factor a NaN or outside 2^-64 to 2^64
 number refused.Speed = 14
--- clip: header, offsets or length differ from the layout
+-- clip: header, offsets or length differ from the layout; a clip to be written: no frames, or a file over 65,536 bytes
 number refused.Layout = 15
 -- cents: outside −12,000 to 12,000
 number refused.Cents = 16

@@ -8,8 +8,11 @@ use super::limits::check_shape;
 /// Samples of a valid shape: f32 bit patterns, `frames` of them for each of `count` channels.
 #[derive(Clone, Copy)]
 pub struct Channels<'a> {
+    /// The channels one after another, each of `frames` f32 bit patterns.
     pub samples: &'a [u32],
+    /// The number of channels: 1 to 32.
     pub count: usize,
+    /// The frames in each channel: at most 16,777,216.
     pub frames: usize,
     ghost valid: { Valid count frames (length samples.now) },
 }

@@ -20,12 +20,15 @@ pub use limits::{
 };
 pub use refusals::Refusal;
 
-/// The channels of a buffer (1 to 32 where it is accepted), the frames in each of them (at most 16,777,216), and the
-/// sample rate in frames a second (3,000 to 768,000). Anything may stand in a record: each call checks it.
+/// The channels of a buffer, the frames in each of them and the sample rate. Anything may stand in a record: each
+/// call checks it.
 #[repr(C)]
 #[derive(Clone, Copy, Default)]
 pub struct Shape {
+    /// The number of channels: 1 to 32 where it is accepted.
     pub channels: usize,
+    /// The frames in each channel: at most 16,777,216 where it is accepted.
     pub frames: usize,
+    /// The sample rate, in frames a second: 3,000 to 768,000 where it is accepted.
     pub rate: f32,
 }

@@ -12,6 +12,7 @@ const FASTEST: f64 = 18446744073709551616.0;
 /// A factor that a block may have: from 2^-64 to 2^64. No value of this type holds another.
 #[derive(Clone, Copy)]
 pub struct Factor {
+    /// The factor, from 2^-64 to 2^64.
     pub value: f64,
     ghost allowed: { is_factor value ≡ true },
 }

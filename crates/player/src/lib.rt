@@ -20,6 +20,7 @@ use tolerances::Tolerances;
 #[repr(C)]
 #[derive(Clone, Copy, Default)]
 pub struct LoopState {
+    /// Whether the loop is on.
     pub is_looping: bool,
     /// Where the loop begins, from 0 to the clip's duration.
     pub start: BufferSeconds,
@@ -60,8 +61,9 @@ pub struct PlayerOptions {
 pub struct Player {
     /// The output's rate, in samples per second: 3,000 to 768,000.
     pub sample_rate: f32,
-    /// When the clip starts; `seconds::NEVER` until a start is received. A block moves it to its own time where it
-    /// lies before that and the clip hasn't started.
+    /// When the clip starts; `seconds::NEVER` until a start is received. While the clip hasn't started, a block that
+    /// plays moves it to the block's own time where it lies before that, and a sub-sample block also to the instant
+    /// of a sample near it.
     pub start_time: ContextSeconds,
     /// When the clip stops; `seconds::NEVER` until a stop is received.
     pub stop_time: ContextSeconds,
@@ -69,7 +71,9 @@ pub struct Player {
     pub offset: BufferSeconds,
     /// How much of the clip is played at most; `seconds::NEVER` is all of it.
     pub duration: BufferSeconds,
+    /// The loop and its two points.
     pub loop_state: LoopState,
+    /// What a block moves on.
     pub render_state: RenderState,
     /// Whether a start was received.
     pub has_start: bool,

@@ -1,4 +1,4 @@
-// What each sample of a block plays, in arrays.
+//! What each sample of a block plays, in arrays.
 ghost use Rattle.std.specs.Prelude.{◌≡◌};
 ghost use Rattle.sub_sample.specs.SubSample.{head_at};
 ghost use Rattle.sub_sample.specs.Infos.{frame_of, fraction_of, infos_of};

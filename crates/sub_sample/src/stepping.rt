@@ -1,4 +1,4 @@
-// The sub-sample block: where the playhead stands for each sample, and what the sample plays.
+//! The sub-sample block: where the playhead stands for each sample, and what the sample plays.
 ghost use Rattle.std.specs.Prelude.{◌≡◌, not, ◌&&◌, cond};
 ghost use Rattle.std.specs.Float.Ieee.{lt, le};
 ghost use Rattle.tolerances.specs.Tolerances.{is_near};
