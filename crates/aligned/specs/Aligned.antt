@@ -30,7 +30,8 @@ aligned_sample turns frames first channel i = get_or channel (played turns frame
 -- the last sample below i at which frame 0 was started over
 unfoldable pub last_wrap : Bool → ℕ → ℕ → ℕ → Option ℕ
 last_wrap turns frames first zero = None
-last_wrap turns frames first (suc i) = cond (turns && leb frames (next_frame turns frames first i)) (Some i) (last_wrap turns frames first i)
+last_wrap turns frames first (suc i) =
+    cond (turns && leb frames (next_frame turns frames first i)) (Some i) (last_wrap turns frames first i)
 
 -- after a last wrap at sample i it is the remainder of (n − i) / rate by the duration; otherwise the position grows by the block's length
 unfoldable pub aligned_position : ℕ → Float → Float → Float → Option ℕ → Float

@@ -10,4 +10,7 @@ use Rattle.player.specs.Factor.{is_factor}
 
 pub allowed : (cents : ℤ) → bad_cents cents ≡ false → is_factor (factor_of cents) ≡ true
 allowed cents good =
-    rw (is_true (le (fin false 1 (negsuc 63)) (factor_of cents)) (not_slow cents good), is_true (le (factor_of cents) (fin false 1 (pos 64))) (not_fast cents good)) refl
+    rw (
+      is_true (le (fin false 1 (negsuc 63)) (factor_of cents)) (not_slow cents good),
+      is_true (le (factor_of cents) (fin false 1 (pos 64))) (not_fast cents good),
+    ) refl

@@ -21,4 +21,5 @@ rendered_cents n p outLength samplesLength time rate cents =
 unfoldable pub output_cents : ℕ → Player → List ℕ → List ℕ → Float → Float → ℤ → List ℕ
 output_cents n p out samples time rate cents =
     let q = plan n p time rate (factor_of cents) in
-    stored (answer_of (checked_cents n p (length out) (length samples) time rate cents)) (written n q.sample p.shape.frames samples out q.channels) out
+    stored (answer_of (checked_cents n p (length out) (length samples) time rate cents))
+    (written n q.sample p.shape.frames samples out q.channels) out

@@ -14,7 +14,8 @@ Total p q m c e = e + (cond p m 0 + cond q c 0) ≡ cond p 0 m + cond q 0 c
 abbrev pub LowTotal : Bool → Bool → ℕ → ℕ → ℕ → Type 0
 LowTotal p q m c e = (e + (cond p m 0 + cond q c 0)) % 2 ^ 64 ≡ (cond p 0 m + cond q 0 c) % 2 ^ 64
 
--- n is the pattern of an f64 in the f32's normal range, and not negative; the tie between the two f32 values around it is at most 512 from it
+-- n is the pattern of an f64 in the f32's normal range, and not negative; the tie between the two f32 values around it
+-- is at most 512 from it
 pub record Beside (n : ℕ) : Type 0 where
   pub least : 898 * 2 ^ 52 ≤ n
   pub most : n < 1150 * 2 ^ 52

@@ -11,21 +11,24 @@ use Rattle.sub_sample.specs.Infos.{entry}
 use Rattle.sub_sample.specs.declared.PlaybackInfo.{PlaybackInfo}
 use Rattle.sub_sample.specs.declared.Infos.{Infos}
 
--- The frame at which the sample after the last is found, looped: the loop's start forwards, the next whole frame, or its end backwards, cut to a
--- whole frame. Frames are counted by the output's rate, not the clip's, and it is the last frame at most.
+-- The frame at which the sample after the last is found, looped: the loop's start forwards, the next whole frame, or its
+-- end backwards, cut to a whole frame. Frames are counted by the output's rate, not the clip's, and it is the last frame
+-- at most.
 unfoldable pub loop_frame : Settings → ℕ
 loop_frame s =
     let start = mul binary64 s.loop_start.0 s.sample_rate in
     let end = mul binary64 s.loop_end.0 s.sample_rate in
     min
-    (cond (le float_zero s.playback_rate) (cond (eq (floor binary64 start) start) (to_unsigned 64 start) (to_unsigned 64 start + 1)) (to_unsigned 64 end))
+    (cond (le float_zero s.playback_rate)
+    (cond (eq (floor binary64 start) start) (to_unsigned 64 start) (to_unsigned 64 start + 1)) (to_unsigned 64 end))
     (s.buffer_length - 1)
 
 -- unlooped, it is continued from the last two frames; it is 0 where k is near 1, and at frame 0
 unfoldable pub extrapolated : Settings → List ℕ → ℕ → Float → Float
 extrapolated s channel frame k =
     cond (is_near s.tolerances k one || eqb frame 0) float_zero
-    (sub binary64 (mul binary64 (of_bits binary64 0x4000_0000_0000_0000) (widen (get_or channel frame 0))) (widen (get_or channel (frame - 1) 0)))
+    (sub binary64 (mul binary64 (of_bits binary64 0x4000_0000_0000_0000) (widen (get_or channel frame 0)))
+    (widen (get_or channel (frame - 1) 0)))
 
 -- the sample after frame number `frame`: the clip's next frame, or what stands in for it after the last
 unfoldable pub following : Settings → List ℕ → ℕ → Float → Float

@@ -1,4 +1,4 @@
-// The bits of a sample between two frames of a channel, and a channel's part of the block.
+//! The bits of a sample between two frames of a channel, and a channel's part of the block.
 ghost use Rattle.std.specs.Prelude.{◌≡◌, ◌+◌, ◌-◌, ◌<◌, min, cond, length, get_or};
 ghost use Rattle.std.specs.Float.{binary64};
 ghost use Rattle.std.specs.Float.Ieee.{eq, to_unsigned};
@@ -111,7 +111,8 @@ impl<'a> Reader<'a> {
     #[tactic(auto, unfolding(crate::specs::Interpolated::between))]
     fn sample_between(&self, frame: usize, k: f64) -> u32
         ensures { result
-            ≡ between k (widen (get_or self.now.channel.now frame 0)) (following self.now.s self.now.channel.now frame k) }
+            ≡ between k (widen (get_or self.now.channel.now frame 0))
+            (following self.now.s self.now.channel.now frame k) }
     {
         let at = self.neighbours(frame, k);
         fma_narrow(1.0 - k, at.prev_sample, k * at.next_sample)

@@ -12,7 +12,8 @@ mul-pow a b (suc n) = rw (pow-suc, pow-suc, pow-suc, mul-pow a b n) (mul-mul-mul
 -- a root that is at most k's is at most one that k's is below
 pub root_le : (n : ℕ) {k f g : ℕ} → f ^ n ≤ k → k < (g + 1) ^ n → f ≤ g
 root_le n {k} {f} {g} low high =
-    le_of_suc-le-suc (rw add-one at (lt_of_not-le (λ (h : g + 1 ≤ f). lt_irrefl k (lt_of_lt_of_le high (le_trans (pow-le-pow_left h n) low)))))
+    le_of_suc-le-suc
+    (rw add-one at (lt_of_not-le (λ (h : g + 1 ≤ f). lt_irrefl k (lt_of_lt_of_le high (le_trans (pow-le-pow_left h n) low)))))
 
 -- f, the n-th root of k rounded down, is the only one
 pub root_single : (n : ℕ) {k f g : ℕ} → f ^ n ≤ k → k < (f + 1) ^ n → g ^ n ≤ k → k < (g + 1) ^ n → f ≡ g

@@ -147,8 +147,8 @@ sub_sample_plan n p time rate computed =
     }
 
 -- ---- the order of the block's cases
--- Silent: it has ended; it has a start but no buffer, which ends it; it starts at or past the block's end, which ends it if the stop is reached;
--- it has no buffer. Else it plays, aligned or sub-sample.
+-- Silent: it has ended; it has a start but no buffer, which ends it; it starts at or past the block's end, which ends it
+-- if the stop is reached; it has no buffer. Else it plays, aligned or sub-sample.
 unfoldable pub plan : ℕ → Player → Float → Float → Float → Plan
 plan n p time rate factor =
     let end = block_end n time p.sample_rate in
@@ -195,7 +195,9 @@ checked n p outLength samplesLength time rate factor = checks n p outLength samp
 
 -- what a block answers whose factor is refused: only 8 and 13 come before
 unfoldable pub without_factor : ℕ → Player → ℕ → Float → Refusal → Refusal
-without_factor n p outLength time refusal = cond (not (eqb outLength (32 * n))) refused.Length (cond (bad_block_time p time) refused.Time refusal)
+without_factor n p outLength time refusal =
+    cond (not (eqb outLength (32 * n))) refused.Length
+    (cond (bad_block_time p time) refused.Time refusal)
 
 -- ---- the answer, and what the output then holds
 abbrev pub report_of : Plan → BlockReport
@@ -209,10 +211,12 @@ rendered n p outLength samplesLength time rate factor =
 -- the output once its first `count` channels are written, each in its own part; the others are not touched
 unfoldable pub written : ℕ → (List ℕ → ℕ → ℕ) → ℕ → List ℕ → List ℕ → ℕ → List ℕ
 written n sample frames samples out zero = out
-written n sample frames samples out (suc c) = put (n * c) n (table n (sample (channel samples frames c))) (written n sample frames samples out c)
+written n sample frames samples out (suc c) =
+    put (n * c) n (table n (sample (channel samples frames c))) (written n sample frames samples out c)
 
 -- the lent output after the call: as it was where the call is refused
 unfoldable pub output : ℕ → Player → List ℕ → List ℕ → Float → Float → Float → List ℕ
 output n p out samples time rate factor =
     let q = plan n p time rate factor in
-    stored (answer_of (checked n p (length out) (length samples) time rate factor)) (written n q.sample p.shape.frames samples out q.channels) out
+    stored (answer_of (checked n p (length out) (length samples) time rate factor))
+    (written n q.sample p.shape.frames samples out q.channels) out

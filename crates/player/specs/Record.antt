@@ -1,5 +1,5 @@
--- docs/REFERENCE.md, 'Player and messages': the player's record, a fresh one, and what each kind of call may change of it. The tolerances are those
--- that the player was made with: no call changes them. Definitions only.
+-- docs/REFERENCE.md, 'Player and messages': the player's record, a fresh one, and what each kind of call may change of
+-- it. The tolerances are those that the player was made with: no call changes them. Definitions only.
 use Rattle.std.specs.Prelude.{Bool, true, false, ℕ, Float}
 use Rattle.std.specs.Float.{binary32}
 use Rattle.std.specs.Float.Ieee.{of_bits}

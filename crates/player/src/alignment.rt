@@ -38,7 +38,8 @@ impl Player {
 
     // Aligned before, or from this block on.
     fn can_align(self, time: f64) -> bool
-        ensures { result ≡ (self.render_state.is_aligned || eq (start_at self time) time && eq self.offset.0 float_zero) }
+        ensures { result
+            ≡ (self.render_state.is_aligned || eq (start_at self time) time && eq self.offset.0 float_zero) }
     {
         self.render_state.is_aligned || self.start_at(time) == time && self.offset.0 == 0.0
     }
@@ -59,7 +60,8 @@ impl Player {
 
     // A duration or a stop inside the block.
     fn stops_within(self, time: f64) -> bool
-        ensures { result ≡ (lt self.duration.0 (add binary64 self.render_state.buffer_time.0 (block_seconds 128 self.sample_rate))
+        ensures { result
+            ≡ (lt self.duration.0 (add binary64 self.render_state.buffer_time.0 (block_seconds 128 self.sample_rate))
             || lt self.stop_time.0 (block_end 128 time self.sample_rate)) }
     {
         self.render_state.buffer_time.0 + block_seconds(self.sample_rate) > self.duration.0
@@ -80,7 +82,9 @@ impl Player {
 
     // At or past the clip's end forwards, or below its start backwards.
     fn runs_out(self, computed: f64, position: f64) -> bool
-        ensures { result ≡ (lt float_zero computed && le (clip_seconds self) position || lt computed float_zero && lt position float_zero) }
+        ensures { result
+            ≡ (lt float_zero computed && le (clip_seconds self) position
+            || lt computed float_zero && lt position float_zero) }
     {
         computed > 0.0 && position >= self.clip_seconds() || computed < 0.0 && position < 0.0
     }

@@ -29,7 +29,9 @@ impl Player {
     }
 
     fn actual_loop_end(self) -> f64
-        ensures { result ≡ cond self.loop_state.is_looping (cond (own_loop self) self.loop_state.end.0 (clip_seconds self)) float_zero }
+        ensures { result
+            ≡ cond self.loop_state.is_looping (cond (own_loop self) self.loop_state.end.0 (clip_seconds self))
+            float_zero }
     {
         if !self.loop_state.is_looping {
             0.0

@@ -51,7 +51,8 @@ fn write_sub_sample(
 ) -> Playhead
     ensures { let it = channels.entry in
         (result ≡ head_at s head 128)
-        × (out.new ≡ written 128 (λ frames i. sample_of s frames (info_of_sample s i (head_at s head i))) it.frames it.samples.now out.old it.count) }
+        × (out.new ≡ written 128 (λ frames i. sample_of s frames (info_of_sample s i (head_at s head i))) it.frames
+        it.samples.now out.old it.count) }
 {
     let filled = fill_infos(s, head);
     write_channels(out, channels, |part, channel| {
@@ -169,7 +170,8 @@ impl Player {
     // The samples as the channels of the player's buffer.
     fn channels<'a>(self, samples: &'a [u32]) -> Channels<'a>
         requires { Valid self.shape.channels self.shape.frames (length samples.now) }
-        ensures { (result.samples.now ≡ samples.now) × (result.count ≡ self.shape.channels) × (result.frames ≡ self.shape.frames) }
+        ensures { (result.samples.now ≡ samples.now) × (result.count ≡ self.shape.channels)
+            × (result.frames ≡ self.shape.frames) }
     {
         Channels {
             samples,

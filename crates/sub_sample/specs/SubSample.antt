@@ -1,5 +1,5 @@
--- docs/REFERENCE.md, 'Sub-sample block' and 'Near tests and tolerances': where the playhead stands for each sample, and what the sample plays.
--- Every near test goes by the tolerances that the player was made with. Definitions only.
+-- docs/REFERENCE.md, 'Sub-sample block' and 'Near tests and tolerances': where the playhead stands for each sample, and
+-- what the sample plays. Every near test goes by the tolerances that the player was made with. Definitions only.
 use Rattle.std.specs.Prelude.{Bool, true, not, ◌&&◌, ◌||◌, cond, ℕ, zero, suc, ltb, Float, Option, None, Some}
 use Rattle.std.specs.Float.{binary64}
 use Rattle.std.specs.Float.Ieee.{add, sub, mul, lt, le, to_unsigned}
