@@ -73,8 +73,12 @@ frames_of file h = frames_from file h.start (h.shape.channels * h.shape.frames)
 -- the new reader's answers: the header, and the frames in every slice of their number
 pub record ReadsAs (file : List ℕ) (shape : Shape) (rate_bits onset : ℕ) (samples : List ℕ) : Type 0 where
   pub header : read_with_onset file
-      ≡ Ok (record { header = record { shape = shape; rate_bits = rate_bits; start = header_length form.New shape.channels }; onset = onset })
-  pub frames : (out : List ℕ) → length out ≡ shape.channels * shape.frames → frames_out (frames_read_with_onset file (length out)) file out ≡ samples
+      ≡ Ok (record {
+        header = record { shape = shape; rate_bits = rate_bits; start = header_length form.New shape.channels };
+        onset = onset;
+      })
+  pub frames : (out : List ℕ) → length out ≡ shape.channels * shape.frames
+      → frames_out (frames_read_with_onset file (length out)) file out ≡ samples
 
 pub record WrittenClips : Type 0 where
   -- the writer and the reader check alike: of a clip of so many samples that a file holds, the reader says of the file what the writer says

@@ -23,7 +23,9 @@ pub const MAX_LENGTH: usize = 65_536;
 /// The header's form: the new one has an onset.
 #[derive(Clone, Copy)]
 pub enum Form {
+    /// The header without an onset.
     Old,
+    /// The header with an onset.
     New,
 }
 
@@ -42,15 +44,20 @@ impl Form {
 /// What a clip's header says: its shape, the bits of its rate, and the byte at which its frames start.
 #[derive(Drop)]
 pub struct ClipHeader {
+    /// The channels, the frames and the rate in hertz.
     pub shape: Shape,
+    /// The rate as the file has it: the bits of an f32.
     pub rate_bits: u32,
+    /// The byte at which the first channel's frames start.
     pub start: usize,
 }
 
 /// What a clip's header says, and the frame of the sound's onset: 0 where the header has none.
 #[derive(Drop)]
 pub struct WithOnset {
+    /// The rest of what the header says.
     pub header: ClipHeader,
+    /// The frame of the onset.
     pub onset: u32,
 }
 

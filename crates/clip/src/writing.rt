@@ -51,7 +51,8 @@ fn write_header(shape: Shape, onset: u32, header: &mut [u8])
     requires few { shape.channels ≤ 32 }
     requires short { shape.frames ≤ 16380 }
     requires room { length header.old ≡ 16 + 4 * shape.channels }
-    ensures { header.new ≡ bytes 2 (16 + 4 * shape.channels) ++ (bytes 2 shape.channels ++ (bytes 4 shape.frames ++ (bytes 4 (to_bits binary32 shape.rate)
+    ensures { header.new ≡ bytes 2 (16 + 4 * shape.channels) ++ (bytes 2 shape.channels
+        ++ (bytes 4 shape.frames ++ (bytes 4 (to_bits binary32 shape.rate)
         ++ (bytes 4 onset ++ words (table shape.channels (offset form.New shape.channels shape.frames)))))) }
 {
     let Shape {

@@ -30,7 +30,8 @@ pub record TheTape (n l : ℕ) : Type 0 where
       → ((stepped_all n l t steps).ended ≡ true) × ((i : ℕ) → frame_at l (stepped_all n l t steps) i ≡ None)
   -- the premise in words: it is met where no loop-on message has an exact fit just before it and a block behind it
   pub premise : (t : Tape) (steps : List Step)
-      → ((front between back : List Step) → steps ≡ front ++ (loop_is true ∷ (between ++ (a_block ∷ back))) → (stepped_all n l t front).exact_fit ≡ true → ⊥)
+      → ((front between back : List Step) → steps ≡ front ++ (loop_is true ∷ (between ++ (a_block ∷ back)))
+      → (stepped_all n l t front).exact_fit ≡ true → ⊥)
       → T (stays_off n l t steps)
 
 abbrev pub Tapes : Type 0

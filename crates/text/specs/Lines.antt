@@ -18,7 +18,8 @@ run_line channel first count bits = field channel SPACE ++ (field first SPACE ++
 unfoldable pub runs_from : ℕ → ℕ → ℕ → ℕ → List ℕ → List ℕ
 runs_from channel first count bits [] = run_line channel first count bits
 runs_from channel first count bits (x ∷ xs) =
-    cond (eqb x bits) (runs_from channel first (count + 1) bits xs) (run_line channel first count bits ++ runs_from channel (first + count) 1 x xs)
+    cond (eqb x bits) (runs_from channel first (count + 1) bits xs)
+    (run_line channel first count bits ++ runs_from channel (first + count) 1 x xs)
 
 -- the lines of a channel's words, which begin at the index `first`
 unfoldable pub runs : ℕ → ℕ → List ℕ → List ℕ
