@@ -22,7 +22,9 @@ use seconds::BufferSeconds;
 #[repr(C)]
 #[derive(Clone, Copy)]
 pub struct Told {
+    /// The player after the message; after a refusal, as it was; of a refused rate, `nobody`.
     pub player: Player,
+    /// The number of the refusal, 0 for none.
     pub refusal: u32,
 }
 
@@ -31,17 +33,24 @@ pub struct Told {
 #[repr(C)]
 #[derive(Clone, Copy, Default)]
 pub struct BlockAnswer {
+    /// The position after the block, in seconds of the clip.
     pub position: BufferSeconds,
+    /// How many channels were written, 128 samples each.
     pub channels: usize,
+    /// The number of the refusal, 0 for none.
     pub refusal: u32,
+    /// Whether a graph must go on asking this player.
     pub keep_alive: bool,
+    /// Whether the player has ended: every later block is silent.
     pub ended: bool,
 }
 
 /// The player that a block leaves, and its answer.
 #[derive(Clone, Copy)]
 pub struct Blocked {
+    /// The player after the block; after a refusal, as it was.
     pub player: Player,
+    /// What the block answers.
     pub answer: BlockAnswer,
 }
 
@@ -49,7 +58,9 @@ pub struct Blocked {
 #[repr(C)]
 #[derive(Clone, Copy)]
 pub struct Factored {
+    /// What the cents multiply the speed by.
     pub factor: f64,
+    /// The number of the refusal, 0 for none.
     pub refusal: u32,
 }
 

@@ -1,5 +1,5 @@
--- docs/REFERENCE.md, 'Player and messages' and 'Output block': a clip played from its start for a count of blocks, clip and output at 48,000.
--- Definitions only.
+-- docs/REFERENCE.md, 'Player and messages' and 'Output block': a clip played from its start for a count of blocks, clip and output at
+-- 48,000. Definitions only.
 use Rattle.std.specs.Prelude.{Bool, false, not, List, ℕ, zero, suc, length, Float}
 use Rattle.std.specs.Float.{binary64}
 use Rattle.std.specs.Float.Ieee.{mul, div}
@@ -32,7 +32,8 @@ sent (Err refusal) m = Err refusal
 
 -- the player that was given the clip, started at 0 with no duration and told whether to loop
 unfoldable pub begun : ℕ → ℕ → Bool → ℕ → Result Player Refusal
-begun channels frames looped len = sent (sent (given (made samples_in_second) channels frames len) (Start float_zero float_zero never)) (Loop looped)
+begun channels frames looped len =
+    sent (sent (given (made samples_in_second) channels frames len) (Start float_zero float_zero never)) (Loop looped)
 
 -- ---- blocks, one after another
 -- block n is at n times 128, divided by 48,000: each step is rounded
