@@ -13,7 +13,8 @@ space line k = eqb (at line k) SPACE
 
 -- `T x`, `P x`, `E x`
 unfoldable pub time_of : ℕ → ℕ → Option Command
-time_of letter x = cond (eqb letter 84) (Some (Stop x)) (cond (eqb letter 80) (Some (LoopStart x)) (cond (eqb letter 69) (Some (LoopEnd x)) None))
+time_of letter x =
+    cond (eqb letter 84) (Some (Stop x)) (cond (eqb letter 80) (Some (LoopStart x)) (cond (eqb letter 69) (Some (LoopEnd x)) None))
 
 -- a letter, and the time behind it
 unfoldable pub time_command : ℕ → List ℕ → Option Command

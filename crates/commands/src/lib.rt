@@ -10,11 +10,17 @@ ghost use Rattle.commands.specs.Statement.{CommandLines};
 /// A line of input; times are f64 bit patterns.
 #[derive(Clone, Copy, PartialEq, Eq, Debug)]
 pub enum Command {
+    /// `S`: when to start, the offset in the clip and the duration.
     Start(u64, u64, u64),
+    /// `T`: when to stop.
     Stop(u64),
+    /// `P`: where the loop starts in the clip.
     LoopStart(u64),
+    /// `E`: where the loop ends in the clip.
     LoopEnd(u64),
+    /// `L`: whether to loop.
     Loop(bool),
+    /// `B`: a block.
     Block,
 }
 

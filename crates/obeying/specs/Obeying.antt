@@ -82,7 +82,8 @@ unfoldable pub played_words : List ℕ → Session → List ℕ → List ℕ
 played_words samples s words = output 128 s.player words samples (block_time s) one one
 
 unfoldable pub played : List ℕ → Session → List ℕ → Reply
-played samples s words = after_block s (played_words samples s words) (rendered 128 s.player (length words) (length samples) (block_time s) one one)
+played samples s words =
+    after_block s (played_words samples s words) (rendered 128 s.player (length words) (length samples) (block_time s) one one)
 
 -- ---- a line: the reply, and the words of the lent block output after it
 pub record Outcome : Type 0 where
@@ -93,7 +94,8 @@ abbrev pub outcome : Reply → List ℕ → Outcome
 outcome r words = record { reply = r; words = words }
 
 unfoldable pub done : List ℕ → Session → List ℕ → Option Command → Outcome
-done samples s words (Some (Start when offset duration)) = outcome (sent s (message.Start (seconds when) (seconds offset) (seconds duration))) words
+done samples s words (Some (Start when offset duration)) =
+    outcome (sent s (message.Start (seconds when) (seconds offset) (seconds duration))) words
 done samples s words (Some (Stop when)) = outcome (sent s (message.Stop (seconds when))) words
 done samples s words (Some (LoopStart at)) = outcome (sent s (message.LoopStart (seconds at))) words
 done samples s words (Some (LoopEnd at)) = outcome (sent s (message.LoopEnd (seconds at))) words

@@ -17,14 +17,18 @@ use text::BLOCK_ROOM;
 /// The player, and the number of the next `B` line.
 #[derive(Clone, Copy)]
 pub struct Session {
+    /// The player as the lines before left it.
     pub player: Player,
+    /// The number of the next `B` line, from 0 on.
     pub number: usize,
 }
 
 /// The session that a line leaves, and how many bytes it printed.
 #[derive(Clone, Copy)]
 pub struct Answer {
+    /// The session after the line.
     pub session: Session,
+    /// How many bytes stand at the start of the lent slice.
     pub printed: usize,
 }
 
