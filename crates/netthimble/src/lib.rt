@@ -24,7 +24,9 @@ use tolerances::Tolerances;
 #[repr(C)]
 #[derive(Clone, Copy)]
 pub struct Shaped {
+    /// The channels, the frames and the rate in hertz.
     pub shape: Shape,
+    /// The number of the refusal, 0 for none.
     pub refusal: u32,
 }
 
@@ -49,8 +51,11 @@ impl From<Result<Shape, Refusal>> for Shaped {
 #[repr(C)]
 #[derive(Clone, Copy)]
 pub struct ShapedWithOnset {
+    /// The channels, the frames and the rate in hertz.
     pub shape: Shape,
+    /// The frame of the sound's onset; 0 where the clip has none.
     pub onset: u32,
+    /// The number of the refusal, 0 for none.
     pub refusal: u32,
 }
 
@@ -80,8 +85,11 @@ impl From<Result<WithOnset, Refusal>> for ShapedWithOnset {
 #[repr(C)]
 #[derive(Clone, Copy)]
 pub struct Parts {
+    /// The shape of the frames before the cut.
     pub first: Shape,
+    /// The shape of the frames from the cut on.
     pub rest: Shape,
+    /// The number of the refusal, 0 for none.
     pub refusal: u32,
 }
 
@@ -111,7 +119,9 @@ impl From<Result<(Shape, Shape), Refusal>> for Parts {
 #[repr(C)]
 #[derive(Clone, Copy)]
 pub struct Tolerated {
+    /// The tolerances of the near tests and of relabelling.
     pub tolerances: Tolerances,
+    /// The number of the refusal, 0 for none.
     pub refusal: u32,
 }
 
@@ -140,7 +150,9 @@ impl From<Result<Tolerances, Refusal>> for Tolerated {
 #[repr(C)]
 #[derive(Clone, Copy)]
 pub struct Count {
+    /// How many frames were moved, or how many bytes the file has.
     pub count: usize,
+    /// The number of the refusal, 0 for none.
     pub refusal: u32,
 }
 

@@ -16,9 +16,13 @@ const COPY_RATE: f32 = 48_000.0;
 /// A copy between a channel of a buffer, from a frame on, and so many words.
 #[derive(Clone, Copy)]
 pub struct ChannelCopy {
+    /// The buffer's shape; its rate is 48,000 hertz.
     pub shape: Shape,
+    /// The number of the channel, from 0 on.
     pub channel: usize,
+    /// The first frame of the copy.
     pub offset: usize,
+    /// How many words the slice beside the channel has.
     pub len: usize,
     ghost fits: { len ≤ ROOM },
 }
@@ -26,11 +30,17 @@ pub struct ChannelCopy {
 /// A call that waits for its words.
 #[derive(Clone, Copy)]
 pub enum Call {
+    /// The player's clip.
     Clip(Shape),
+    /// A copy out of the buffer.
     CopyFrom(ChannelCopy),
+    /// A copy into the buffer.
     CopyTo(ChannelCopy),
+    /// The first buffer's shape and the second's.
     Extend(Shape, Shape),
+    /// A shape, and the frame at which it is cut.
     Split(Shape, usize),
+    /// A shape, the wanted rate in hertz, and the tolerances.
     Convert(Shape, f32, Tolerances),
 }
 

@@ -19,7 +19,9 @@ pub const OUTPUT_MAX: usize = 65_536;
 /// What a block's rate is multiplied by: a factor, or that of whole cents.
 #[derive(Clone, Copy)]
 pub enum Speed {
+    /// The factor.
     Factor(f64),
+    /// The cents.
     Cents(i32),
 }
 
@@ -27,10 +29,15 @@ pub enum Speed {
 /// clip's, where the line names none).
 #[derive(Clone, Copy)]
 pub struct Request {
+    /// The time of the block's start, in seconds.
     pub time: f64,
+    /// The output's rate, in hertz.
     pub rate: f32,
+    /// Its factor, or its cents.
     pub speed: Speed,
+    /// The length of the lent output, in words.
     pub output: usize,
+    /// The length of the lent samples, in words; none where the line names none.
     pub samples: Option<usize>,
     ghost output_fits: { output ≤ OUTPUT_MAX },
     ghost samples_fit: { ForSome samples (λ n. n ≤ ROOM) },
@@ -39,12 +46,19 @@ pub struct Request {
 /// A fresh player's tolerances and a conversion's are made where the line is read, and may be refused.
 #[derive(Clone, Copy)]
 pub enum Order {
+    /// `R`: a fresh player of this rate in hertz, with these tolerances.
     Fresh(f32, Result<Tolerances, Refusal>),
+    /// `S`, `T`, `P`, `E` and `L`: a message.
     Message(ControlMessage),
+    /// `B` and `D`: a block.
     Block(Request),
+    /// `M` and `N`: a preview.
     Preview(Request),
+    /// `Z`: what the player's record has.
     Show,
+    /// `C`, `KF`, `KT`, `J` and `V`: a call that waits for words.
     Call(Call),
+    /// `Q`: a conversion of this shape to this rate in hertz.
     Convert(Shape, f32, Result<Tolerances, Refusal>),
 }
 
@@ -100,7 +114,8 @@ impl Request {
     fn read<F: FnOnce(&mut Words) -> Option<Speed>>(words: &mut Words, speed: F) -> Option<Request>
         requires { F.IsAlwaysCallable speed }
         ensures { (read_speed : Reads Speed)
-            → ((given : _) (answer : _) (after : _) → F.post speed given answer after → Gives (λ x. x) answer (left after.now) (read_speed (left given.now)))
+            → ((given : _) (answer : _) (after : _) → F.post speed given answer after
+            → Gives (λ x. x) answer (left after.now) (read_speed (left given.now)))
             → Gives asked result (left words.new) (request read_speed (left words.old)) }
     {
         Some(Request {

@@ -8,8 +8,11 @@ use super::words::Words;
 /// A call, how many words it waits for, and how many of them are there.
 #[derive(Clone, Copy)]
 pub struct Waiting {
+    /// The call.
     pub call: Call,
+    /// How many words it waits for in all.
     pub wanted: usize,
+    /// How many of them are there.
     pub got: usize,
     ghost within: { got ≤ wanted },
     ghost fits: { wanted ≤ ROOM },
@@ -18,7 +21,9 @@ pub struct Waiting {
 /// Why a call is turned down at once: a shape is outside the limits, or there is no room for its words.
 #[derive(Clone, Copy, Debug, PartialEq, Eq)]
 pub enum CallError {
+    /// A shape is outside the limits: refused with 1.
     Shape,
+    /// The words are more than there is room for.
     Room,
 }
 

@@ -19,6 +19,7 @@ impl<'a> Words<'a> {
     ghost use Rattle.protocol.specs.Words.{words, left, Gives, Takes};
     ghost use Rattle.protocol.specs.Orders.{shape, tolerances};
 
+    /// The words of a line.
     #[tactic(auto, unfolding(crate::specs::Words::words_of_rest))]
     pub fn of(line: &'a [u8]) -> Words<'a>
         ensures { left result ≡ words line.now }
@@ -52,6 +53,7 @@ impl<'a> Words<'a> {
         }
     }
 
+    /// A decimal number; none, as of each reader below, where the next word is no such number.
     #[tactic(auto, using(crate::proofs::Cuts::one_more, crate::proofs::Cuts::no_more, crate::proofs::Tests::decimal_read))]
     pub fn decimal(&mut self) -> Option<usize>
         ensures { Takes (λ x. x) decimal self.old result self.new }
@@ -68,6 +70,7 @@ impl<'a> Words<'a> {
         self.decimal().filter(|n| *n <= most)
     }
 
+    /// The bits of eight hex digits.
     #[tactic(auto, using(crate::proofs::Cuts::one_more, crate::proofs::Cuts::no_more, crate::proofs::Tests::hex_read))]
     pub fn bits32(&mut self) -> Option<u32>
         ensures { Takes (λ x. x) (hex 8) self.old result self.new }
@@ -75,6 +78,7 @@ impl<'a> Words<'a> {
         bits32(self.word()?)
     }
 
+    /// The bits of sixteen hex digits.
     #[tactic(auto, using(crate::proofs::Cuts::one_more, crate::proofs::Cuts::no_more, crate::proofs::Tests::hex_read))]
     pub fn bits64(&mut self) -> Option<u64>
         ensures { Takes (λ x. x) (hex 16) self.old result self.new }
@@ -82,6 +86,7 @@ impl<'a> Words<'a> {
         bits64(self.word()?)
     }
 
+    /// A signed number, as its 32 bits.
     #[tactic(auto, unfolding(crate::specs::Words::one, crate::specs::Numbers::i32_word))]
     pub fn i32(&mut self) -> Option<i32>
         ensures { Takes (λ x. x) i32_word self.old result self.new }
@@ -90,6 +95,7 @@ impl<'a> Words<'a> {
         Some(bits.cast_signed())
     }
 
+    /// A float, as its 32 bits.
     #[tactic(auto, unfolding(crate::specs::Words::one, crate::specs::Numbers::f32_word))]
     pub fn f32(&mut self) -> Option<f32>
         ensures { Takes (λ x. x) f32_word self.old result self.new }
@@ -98,6 +104,7 @@ impl<'a> Words<'a> {
         Some(f32::from_pattern(bits))
     }
 
+    /// A float, as its 64 bits.
     #[tactic(auto, unfolding(crate::specs::Words::one, crate::specs::Numbers::f64_word))]
     pub fn f64(&mut self) -> Option<f64>
         ensures { Takes (λ x. x) f64_word self.old result self.new }
