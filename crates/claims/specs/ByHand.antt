@@ -1,6 +1,6 @@
--- The statements' definitions beside players, clips and numbers that can be followed by hand
--- (docs/REFERENCE.md, 'The long run', 'The loop switch', 'Detune in cents', 'Conversion' and 'Near tests and tolerances'): each fact is one
--- computation, and a definition that said something else would not meet it. Others stand beside the definitions, in LongRun.antt and
+-- The statements' definitions beside players, clips and numbers
+-- (docs/REFERENCE.md, 'The long run', 'The loop switch', 'Detune in cents', 'Conversion' and 'Near tests and tolerances'): facts that can
+-- be followed by hand; an edit of must-fail does not meet one of them. Others stand beside the definitions, in LongRun.antt and
 -- LoopSwitch.antt. Definitions only.
 use Rattle.std.specs.Prelude.{◌≡◌, true, false, List, [], ◌∷◌, pos, negsuc, replicate, Float}
 use Rattle.std.specs.Float.{fin}

@@ -57,7 +57,8 @@ pub record KeepsFrames (t : Tolerances) (shape : Shape) (len : ℕ) (rate : Floa
   pub kept : (samples : List ℕ) (c j : ℕ) → length samples ≡ len → c < shape.channels → j < shape.frames
       → T (finite (widen (frame_at samples shape.frames c j)))
       → T (finite (widen (frame_at samples shape.frames c (min (j + 1) (shape.frames - 1)))))
-      → T (eq (widen (frame_at (converted_samples_with t shape samples rate) made.frames c (m * j))) (widen (frame_at samples shape.frames c j)))
+      → T (eq (widen (frame_at (converted_samples_with t shape samples rate) made.frames c (m * j)))
+      (widen (frame_at samples shape.frames c j)))
 
 -- ---- the claim, whatever tolerances are handed; `single n` is the whole number n as f32, and `mono` the shape of one channel
 pub record KeepsTime : Type 0 where
@@ -71,7 +72,8 @@ pub record KeepsTime : Type 0 where
   pub up : Converts defaults (mono 2 24000) 2 (single 48000) (mono 4 48000)
   pub down : Converts defaults (mono 3 48000) 3 (single 32000) (mono 2 32000)
   -- with the distance 0, from 48,000 to the next f32 above it, 2 frames make 3; with the default they are relabelled
-  pub next : Converts (tolerances_of float_zero float_zero float_zero) (mono 2 48000) 2 above (record { channels = 1; frames = 3; rate = above })
+  pub next : Converts (tolerances_of float_zero float_zero float_zero) (mono 2 48000) 2 above
+      (record { channels = 1; frames = 3; rate = above })
   pub relabelled : relabels_with defaults (mono 2 48000) above ≡ true
   -- to 48,000.5 the default makes 3 frames, and with the distance 1/2 they are relabelled
   pub converted : Converts defaults (mono 2 48000) 2 half_above (record { channels = 1; frames = 3; rate = half_above })

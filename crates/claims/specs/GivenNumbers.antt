@@ -86,7 +86,8 @@ module _ (close small apart : Float) where
   unfoldable pub extrapolated : List ℕ → ℕ → Float → Float
   extrapolated channel frame k =
       cond (is_near k one || eqb frame 0) float_zero
-      (sub binary64 (mul binary64 (of_bits binary64 0x4000_0000_0000_0000) (widen (get_or channel frame 0))) (widen (get_or channel (frame - 1) 0)))
+      (sub binary64 (mul binary64 (of_bits binary64 0x4000_0000_0000_0000) (widen (get_or channel frame 0)))
+      (widen (get_or channel (frame - 1) 0)))
 
   -- the sample after frame number `frame`
   unfoldable pub following : Settings → List ℕ → ℕ → Float → Float
@@ -136,7 +137,8 @@ module _ (close small apart : Float) where
   unfoldable pub output : ℕ → Player → List ℕ → List ℕ → Float → Float → Float → List ℕ
   output n p out samples time rate factor =
       let q = plan n p time rate factor in
-      stored (answer_of (checked n p (length out) (length samples) time rate factor)) (written n q.sample p.shape.frames samples out q.channels) out
+      stored (answer_of (checked n p (length out) (length samples) time rate factor))
+      (written n q.sample p.shape.frames samples out q.channels) out
 
   -- ---- conversion
   -- to a rate within the distance of the clip's own, and of an empty buffer, it only relabels

@@ -33,7 +33,7 @@ start = message (Start float_zero float_zero never)
 abbrev pub block_at : Float → Call
 block_at time = block (replicate 4096 7) frames time one one
 
--- 1/256 s and 1/128 s; the first block ends between them, at 1/375 s
+-- 1/256 s and 1/128 s; the first block ends before both, at 1/375 s
 abbrev pub tick : Float
 tick = fin false 1 (negsuc 7)
 

@@ -149,7 +149,8 @@ NoneAt rate stop [] = Unit {0}
 NoneAt rate stop (e ∷ es) = (is_at (end_of rate e) stop ≡ false) × NoneAt rate stop es
 
 -- accepted block e, which `front` precede and `back` follow
-pub record Block (rate : Float) (looped : Bool) (clip : Clip) (stop : List Float) (front : List Event) (e : Event) (back : List Event) : Type 0 where
+pub record Block (rate : Float) (looped : Bool) (clip : Clip) (stop : List Float) (front : List Event) (e : Event) (back : List Event)
+    : Type 0 where
   pub channels : channels_of e ≡ cond (is_ended e.before) 1 clip.channels
   pub plays : T (is_before (end_of rate e) stop) → Plays looped clip (length front) e
   pub stands : T (is_before (end_of rate e) stop) → Stands rate looped clip.frames (suc (length front)) (after e)

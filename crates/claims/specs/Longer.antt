@@ -75,9 +75,11 @@ outcome_longer p (in_cents out samples time rate cents) = record {
   output = output_cents 128 p out samples time rate cents;
 }
 outcome_longer p (preview out samples time rate factor) =
-    looks_on p (answer_of (previewed 128 p (length out) (length samples) time rate factor)) (output_by p (block out samples time rate factor))
+    looks_on p (answer_of (previewed 128 p (length out) (length samples) time rate factor))
+    (output_by p (block out samples time rate factor))
 outcome_longer p (preview_in_cents out samples time rate cents) =
-    looks_on p (answer_of (previewed_cents 128 p (length out) (length samples) time rate cents)) (output_cents 128 p out samples time rate cents)
+    looks_on p (answer_of (previewed_cents 128 p (length out) (length samples) time rate cents))
+    (output_cents 128 p out samples time rate cents)
 
 -- what the calls of a list give, one after another, from the player p on
 unfoldable pub outcomes : Player → List Call → List Outcome
@@ -164,7 +166,8 @@ left p (c ∷ cs) = left (outcome_longer p c).player cs
 
 -- of what a block gave, what a preview shows: all but the player, in whose place stands the one that was looked at
 abbrev pub seen : Answer BlockReport → Answer Coming
-seen (answers.accepted r) = answers.accepted (record { keep_alive = r.keep_alive; ended = r.ended; channels = r.channels; position = r.position })
+seen (answers.accepted r) =
+    answers.accepted (record { keep_alive = r.keep_alive; ended = r.ended; channels = r.channels; position = r.position })
 seen (answers.refusal number) = answers.refusal number
 
 abbrev pub looked_at : Given → Given
@@ -205,11 +208,13 @@ pub record Previews : Type 0 where
   pub any_output : (p : Player) (between : List LongerCall) → unlooked between ≡ [] → (second out samples : List ℕ)
       → length second ≡ length out
       → (time rate factor : Float)
-      → SameBlock (outcome_longer p (preview second samples time rate factor)) (outcome (left p between) (block out samples time rate factor))
+      → SameBlock (outcome_longer p (preview second samples time rate factor))
+      (outcome (left p between) (block out samples time rate factor))
   pub any_output_in_cents : (p : Player) (between : List LongerCall) → unlooked between ≡ [] → (second out samples : List ℕ)
       → length second ≡ length out
       → (time rate : Float) (cents : ℤ)
-      → SameBlock (outcome_longer p (preview_in_cents second samples time rate cents)) (outcome_longer (left p between) (in_cents out samples time rate cents))
+      → SameBlock (outcome_longer p (preview_in_cents second samples time rate cents))
+      (outcome_longer (left p between) (in_cents out samples time rate cents))
   -- a refused preview leaves the second output as it was
   pub unwritten : (p : Player) (second samples : List ℕ) (time rate factor : Float) (refused : Refusal)
       → previewed 128 p (length second) (length samples) time rate factor ≡ Err refused
