@@ -9,6 +9,7 @@
 #include <pthread.h>
 #include <stdatomic.h>
 #include <stdio.h>
+#include <string.h>
 #include "netthimble.h"
 
 enum { SLOTS = 64, CLIP_FRAMES = 300, BLOCKS = 2000, MOST_BLOCKS = 1000000 };
@@ -52,9 +53,13 @@ static uint32_t clip[CLIP_FRAMES];
 static uint32_t out[NETTHIMBLE_OUT];
 static atomic_int blocks;
 
-/* The answers that an engineer would look at later: a callback prints nothing. */
+/* The answers that an engineer would look at later: a callback prints nothing. Of several refusals the first is kept. */
 static uint32_t refusal;
 static size_t lost, next, silent;
+
+static void keep(uint32_t number) {
+    if (refusal == 0) refusal = number;
+}
 
 static uint32_t obey(message m) {
     if (m.kind == START) return netthimble_player_start(&player, m.when, 0.0, NETTHIMBLE_NEVER);
@@ -71,15 +76,16 @@ static void hear(const uint32_t *samples) {
     }
 }
 
-/* What a callback does: the messages that wait, then a block. False once nothing more is to come. */
+/* What a callback does: all the messages that wait, also behind a refused one, then a block. A refused block leaves `out` as it was, with the last
+ * block's samples: zeros go out in their place, and the next block may play again. False once nothing more is to come. */
 static bool callback(int n) {
     message m;
-    while (take_message(&m))
-        if (refusal == 0) refusal = obey(m);
+    while (take_message(&m)) keep(obey(m));
     netthimble_block block = netthimble_player_process(&player, out, NETTHIMBLE_OUT, clip, CLIP_FRAMES, n * NETTHIMBLE_FRAMES / 48000.0, 1.0f, 1.0);
-    if (block.refusal != 0) refusal = block.refusal;
+    keep(block.refusal);
+    if (block.refusal != 0) memset(out, 0, sizeof out);
     hear(out);
-    return block.refusal == 0 && !block.ended;
+    return !block.ended;
 }
 
 static void *audio(void *unused) {
