@@ -144,9 +144,12 @@ def options_and_absences(top):
     told("no folder", top.run("none"), 2, "", "there is no folder none")
     told("no lines", top.run("clips", "none"), 2, "", "can't be read: none")
     told("lines are a folder", top.run("clips", "clips"), 2, "", "can't be read: clips")
+    for words in ([""], ["clips", ""], ["-q", ""]):
+        told(f"empty, {words}", top.run(*words), 2, "", "an argument is empty")
     told("no clip", top.run("bin"), 1, "X 15\n", "no clip.bin that can be read")
     told("no clip, quiet", top.run("-q", "bin"), 1, "X 15\n", "no clip.bin that can be read")
-    told("nowhere for what is tried", top.run("-q", "clips", env={"TMPDIR": "/none"}), 2, "", "no temporary file can be made in /none")
+    for words in (["-q", "clips"], ["clips"]):
+        told(f"nowhere for what is tried, {words}", top.run(*words, env={"TMPDIR": "/none"}), 2, "", "no temporary file can be made in /none")
     top.path("kit/clip.bin").mkdir()
     told("the clip is a folder", top.run("kit"), 1, "X 15\n", "no clip.bin that can be read")
     if shutil.which("rt", path="/usr/bin:/bin") is None:
