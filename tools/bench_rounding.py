@@ -10,7 +10,7 @@ import sys
 import tempfile
 
 from shared import TOP, must, options
-from shared.comparing import aligned, compiled, head, lines, ratios, row, spread
+from shared.comparing import aligned, compiled, head, lines, present, ratios, row, spread
 
 ROUNDS = 401
 NAMES = ("fma", "narrow", "fma_narrow", "tied", "floor", "truncate")
@@ -18,7 +18,9 @@ NAMES = ("fma", "narrow", "fma_narrow", "tied", "floor", "truncate")
 
 def built(library, folder):
     """The program with that library, or with this build's."""
-    if library is None:
+    if library is not None:
+        [library] = present([library], "tools/prove rounding_c makes crates/rounding_c/out/librounding_c.a")
+    else:
         must([TOP / "tools/prove", "-q", "rounding_c"])
         library = TOP / "crates/rounding_c/out/librounding_c.a"
     return compiled("bench_rounding", folder, aligned(library, folder, "rounding", "fused"), flags=("-O2", "-ffp-contract=off"))

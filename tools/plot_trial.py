@@ -16,10 +16,12 @@ def read(lines):
     blocks, refused = [], []
     for line in lines:
         word = line.split()
+        if not word:
+            continue
         if word[0] == "B":
             blocks.append({})
         elif word[0] == "X":
-            refused.append(line)
+            refused.append(line.strip())
         else:
             channel, first, count = map(int, word[:3])
             value = struct.unpack(">f", bytes.fromhex(word[3]))[0]
@@ -49,7 +51,12 @@ def picture(blocks):
 
 if __name__ == "__main__":
     options(__doc__).parse_args()
-    found, refusals = read([line for line in sys.stdin.read().split("\n") if line])
+    try:
+        found, refusals = read(sys.stdin)
+    except (ValueError, IndexError, struct.error):
+        sys.exit("plot_trial: standard input is not what trial prints")
     for line in refusals:
         print(f"refused: {line}", file=sys.stderr)
+    if not found:
+        sys.exit("plot_trial: nothing to draw: trial printed no block")
     print(picture(found))

@@ -1,13 +1,20 @@
 """Plays the shipped tone, or the clip file that is named, block by block and prints where each block ended. First: tools/build_library
 A script elsewhere adds the folder `python` of this repository to PYTHONPATH instead of the first two lines below."""
+import argparse
 import sys
 from pathlib import Path
 
 TOP = Path(__file__).resolve().parents[2]
 sys.path.insert(0, str(TOP / "python"))
+words = argparse.ArgumentParser(description=__doc__)
+words.add_argument("file", metavar="clip.bin", nargs="?", default=TOP / "examples/tone/clip.bin", help="a clip file; the shipped tone, if it is left out")
+file = words.parse_args().file
 import netthimble  # noqa: E402
 
-clip = netthimble.load(sys.argv[1] if len(sys.argv) > 1 else TOP / "examples/tone/clip.bin")
+try:
+    clip = netthimble.load(file)
+except (OSError, netthimble.Refused) as wrong:
+    sys.exit(f"play.py: {wrong}")
 if clip.onset:
     print(f"the sound begins at frame {clip.onset}")
 player = netthimble.Player(clip.sample_rate)

@@ -24,11 +24,11 @@ def aligned(archive, folder, *names):
     return copied
 
 
-def present(libraries):
-    """The libraries' paths; ends the script where one is not there."""
+def present(libraries, made="tools/build_library makes target/c/libnetthimble.so and .a"):
+    """The libraries' paths; ends the script where one is not there, and says what makes such a library."""
     for library in libraries:
         if not Path(library).is_file():
-            sys.exit(f"{library} is not there: tools/build_library makes target/c/libnetthimble.so and .a")
+            sys.exit(f"{library} is not there: {made}")
     return [Path(library).resolve() for library in libraries]
 
 
