@@ -53,8 +53,15 @@ def unreadable():
         return printed("B\n", folder, prefix)
 
 
+# clips of the longest length, 65,536 bytes, with either header, and a byte behind them
+BEHIND = [(name, data + b"\0", "B\n", "X 15\n") for name, data in [
+    ("a byte behind the longest clip", clip([ONE] * 16380)),
+    ("a byte behind the longest clip with an onset", clip([ONE] * 16379, onset=16378)),
+]]
+
+
 def program_cases():
-    for name, data, lines, expected in CASES:
+    for name, data, lines, expected in CASES + BEHIND:
         with tempfile.TemporaryDirectory() as folder:
             if data == FOLDER:
                 Path(folder, "clip.bin").mkdir()

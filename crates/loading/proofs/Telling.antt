@@ -1,14 +1,15 @@
 -- What is printed of a clip that was sent and of one that is refused, and files that are too long. Assumes nothing.
-use mathlib.Core.Path.{◌≡◌, refl, sym, ap, ◌∙◌}
+use mathlib.Core.Path.{◌≡◌, refl, sym, ap, subst, ◌∙◌}
 use mathlib.Core.Bool.{Bool, true, false, cond}
-use mathlib.Core.List.{List, ◌++◌}
+use mathlib.Core.List.{List, ◌++◌, append-nil}
 use Prim.Native.Nat.{ℕ, ◌+◌, ◌≤◌, ◌<◌}
 use native.Mathlib.Omega.{arith}
-use borrow.Author.Tests.{ltb-false, leb-true, leb-false}
+use borrow.Author.Tests.{ltb-true, ltb-false, leb-true, leb-false}
 use lib.Dec.{ltb, leb}
 use lib.ListN.{length, take, drop}
 use lib.Seq.{sets, sets-eq, take-append_seam, take_all, length-take-le}
 use Rattle.std.specs.Prelude.{Option, Some, None, IfSome, Result, Ok, Err}
+use Rattle.std.specs.Io.KnownBytes.{Consumes, IsAtEnd}
 use Rattle.text.specs.Lines.{refusal_text, printed, printed_out}
 use Rattle.lists.specs.Table.{over, length_table}
 use Rattle.buffer.specs.declared.Shape.{Shape}
@@ -101,7 +102,29 @@ front_read file lines = go (leb (length file) file_room) (leb-true (length file)
         let more = q refl in
         told_long (take file_room file) lines (omega (arith, length-take-le file_room file (omega (arith, more)))) ∙ sym (told_long file lines (omega (arith, more)))
 
+-- what was read of a file, up to its end or to as many bytes as count, tells what all of it does
+pub file_told : (u v : Option (List ℕ)) (bytes lines : List ℕ) (n : ℕ) → length bytes ≡ file_room → n ≤ file_room → Consumes u v (take n bytes)
+    → (n < file_room → IsAtEnd v) → IfSome u (λ file. told (take n bytes) lines ≡ told file lines)
+file_told None v bytes lines n long within read end = tt
+file_told (Some xs) None bytes lines n long within read end = absurd read
+file_told (Some xs) (Some ys) bytes lines n long within read end = go (ltb n file_room) (ltb-true n file_room) (ltb-false n file_room)
+  where
+    go : (b : Bool) → (b ≡ true → n < file_room) → (b ≡ false → file_room ≤ n) → told (take n bytes) lines ≡ told xs lines
+    go true p q = ap (λ (l : List ℕ). told l lines) (sym (read ∙ ap (λ (l : List ℕ). take n bytes ++ l) (end (p refl)) ∙ append-nil (take n bytes)))
+    go false p q =
+        let count : length (take n bytes) ≡ file_room = length-take-le n bytes (omega (arith, long, within)) ∙ omega (arith, within, q refl) in
+        let front : take file_room xs ≡ take n bytes = ap (take file_room) read ∙ ap (λ k. take k (take n bytes ++ ys)) (sym count) ∙ take-append_seam (take n bytes) ys in
+        ap (λ (l : List ℕ). told l lines) (sym front) ∙ front_read xs lines
+
 -- ---- what holds of known bytes
 pub some_map : (o : Option (List ℕ)) (P Q : List ℕ → Type 0) → ((x : List ℕ) → P x → Q x) → IfSome o P → IfSome o Q
 some_map None P Q f p = tt
 some_map (Some x) P Q f p = f x p
+
+pub told_whole : (u v i : Option (List ℕ)) (bytes : List ℕ) (n : ℕ) (P : List ℕ → Type 0) → length bytes ≡ file_room → n ≤ file_room
+    → Consumes u v (take n bytes) → (n < file_room → IsAtEnd v) → IfSome i (λ lines. P (told (take n bytes) lines))
+    → IfSome u (λ file. IfSome i (λ lines. P (told file lines)))
+told_whole None v i bytes n P long within read end p = tt
+told_whole (Some xs) v i bytes n P long within read end p =
+    some_map i (λ lines. P (told (take n bytes) lines)) (λ lines. P (told xs lines))
+    (λ lines t. subst P (file_told (Some xs) v bytes lines n long within read end) t) p

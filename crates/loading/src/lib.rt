@@ -10,11 +10,12 @@ ghost use Rattle.loading.specs.Statement.{ClipsPlay};
 
 use buffer::Refusal;
 use player::Player;
-pub use playing::{ROOM, play, read_front};
+pub use playing::{ROOM, play, play_file, read_front};
 
-/// Reads the clip of a file's bytes as the new reader takes it: the player that it is given has the
-/// clip's rate, and its samples, as many as are answered, stand at the front of `samples`. Why it is refused:
-/// as the new reader says, and with 8 (length) where `samples` has no room, which `ROOM` words have.
+/// Reads the clip of a file's bytes as the new reader takes it, and answers a player of the clip's
+/// rate that was given the clip, and the count of its samples, which stand at the front of `samples`.
+/// Why it is refused: as the new reader says, and with 8 (length) where `samples` has no room, which
+/// `ROOM` words have.
 pub fn load(file: &[u8], samples: &mut [u32]) -> Result<(Player, usize), Refusal>
     ensures answer { (result ≡ loaded file.now (length samples.old))
         × (samples.new ≡ samples_out result file.now samples.old) }

@@ -1,10 +1,11 @@
-//! The whole of `trial`: the clip of a file's bytes, played as the lines of a reader say.
-ghost use Rattle.std.specs.Prelude.{◌≡◌, ◌≤◌, ◌<◌, length, take, IfSome, OnOk, OnErr};
+//! The whole of `trial`: the clip of a file, played as the lines of a reader say.
+ghost use Rattle.std.specs.Prelude.{◌≡◌, ◌≤◌, ◌<◌, List, ℕ, length, take, IfSome, OnOk, OnErr};
 ghost use Rattle.std.specs.Io.KnownBytes.{Appends, Consumes, IsAtEnd};
 ghost use Rattle.text.specs.Lines.{refusal_text};
 ghost use Rattle.buffer.specs.Refusals.{number};
 ghost use Rattle.session.specs.Running.{AppendsFront};
-ghost use Rattle.loading.specs.Playing.{told};
+ghost use Rattle.loading.specs.Loading.{loaded};
+ghost use Rattle.loading.specs.Playing.{clip_room, told};
 
 use super::load;
 use buffer::Refusal;
@@ -14,6 +15,9 @@ use std::io::{Read, Write};
 
 /// As many words as any accepted clip has samples, and a few more.
 pub const ROOM: usize = 16_384;
+
+// The bytes of a clip file that are read: one more than the longest clip has.
+const FILE: usize = 65_537;
 
 /// Reads until `bytes` is full or the file is at its end. The answer is how many bytes were read,
 /// and the error where a read failed before.
@@ -55,6 +59,7 @@ pub fn play<R: Read, W: Write>(file: &[u8], input: &mut R, output: &mut W) -> io
         Appends (W.contents output.old) (W.contents output.new) (told file.now lines))) }
     ensures front { OnErr result (IfSome (R.remaining input.old) (λ lines.
         AppendsFront (W.contents output.old) (W.contents output.new) (told file.now lines))) }
+    ensures unread { OnErr (loaded file.now clip_room) (input.new ≡ input.old) }
 {
     let mut samples = [0u32; ROOM];
     match load(file, &mut samples) {
@@ -64,4 +69,25 @@ pub fn play<R: Read, W: Write>(file: &[u8], input: &mut R, output: &mut W) -> io
         }
         Err(refusal) => refuse(output, refusal),
     }
+}
+
+/// Plays the clip of a file as `play` does. The first answer is the error where a read of the file
+/// failed: what came before it is played then. The second is `play`'s. Of a file, an input and an
+/// output whose bytes are known, where no read of the file failed: the output has grown by what all
+/// of the file's bytes and the lines tell, and on an error of reading lines or writing by a front of it.
+pub fn play_file<F: Read, R: Read, W: Write>(
+    file: &mut F,
+    input: &mut R,
+    output: &mut W,
+) -> (io::Result<()>, io::Result<()>)
+    ensures whole { OnOk result.0 (OnOk result.1 (IfSome (F.remaining file.old) (λ clip.
+        IfSome (R.remaining input.old) (λ lines.
+        Appends (W.contents output.old) (W.contents output.new) (told clip lines))))) }
+    ensures front { OnOk result.0 (OnErr result.1 (IfSome (F.remaining file.old) (λ clip.
+        IfSome (R.remaining input.old) (λ lines.
+        AppendsFront (W.contents output.old) (W.contents output.new) (told clip lines))))) }
+{
+    let mut bytes = [0u8; FILE];
+    let (n, read) = read_front(file, &mut bytes);
+    (read, play(&bytes[..n], input, output))
 }
