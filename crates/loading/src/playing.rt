@@ -1,5 +1,5 @@
 //! The whole of `trial`: the clip of a file, played as the lines of a reader say.
-ghost use Rattle.std.specs.Prelude.{◌≡◌, ◌≤◌, ◌<◌, List, ℕ, length, take, IfSome, OnOk, OnErr};
+ghost use Rattle.std.specs.Prelude.{◌≡◌, ◌≤◌, ◌<◌, length, take, IfSome, IfErr, OnOk, OnErr};
 ghost use Rattle.std.specs.Io.KnownBytes.{Appends, Consumes, IsAtEnd};
 ghost use Rattle.text.specs.Lines.{refusal_text};
 ghost use Rattle.buffer.specs.Refusals.{number};
@@ -51,15 +51,17 @@ fn refuse<W: Write>(output: &mut W, refusal: Refusal) -> io::Result<()>
 }
 
 /// Plays the clip of a file's bytes as the lines of `input` say, and prints to `output`; of a
-/// clip that is refused it prints `X` and the number, and reads no line. Of an input and an output
-/// whose bytes are known: on success the output has grown by what the clip and the lines tell, and
-/// on an error of reading or writing by a front of it.
+/// clip that is refused it prints `X` and the number, and reads no line, whatever is known of the
+/// input. Of an input and an output whose bytes are known: on success the output has grown by what
+/// the clip and the lines tell, and on an error of reading or writing by a front of it.
 pub fn play<R: Read, W: Write>(file: &[u8], input: &mut R, output: &mut W) -> io::Result<()>
     ensures whole { OnOk result (IfSome (R.remaining input.old) (λ lines.
         Appends (W.contents output.old) (W.contents output.new) (told file.now lines))) }
     ensures front { OnErr result (IfSome (R.remaining input.old) (λ lines.
         AppendsFront (W.contents output.old) (W.contents output.new) (told file.now lines))) }
     ensures unread { OnErr (loaded file.now clip_room) (input.new ≡ input.old) }
+    ensures refused { IfErr (loaded file.now clip_room) (λ refusal. OnOk result
+        (Appends (W.contents output.old) (W.contents output.new) (refusal_text (number refusal)))) }
 {
     let mut samples = [0u32; ROOM];
     match load(file, &mut samples) {
