@@ -8,6 +8,7 @@ hand (tests/tolerance_cases.py has a reading of them). NumPy's types are tried w
 import copy
 import ctypes
 import gc
+import inspect
 import math
 import os
 import pickle
@@ -15,6 +16,7 @@ import random
 import re
 import resource
 import shutil
+import signal
 import stat
 import struct
 import subprocess
@@ -412,14 +414,14 @@ def makings():
     made, plain, smallest = netthimble.Tolerances, [2.0**-26, 2.0**-26, narrowed(0.1)], 2.0**-1074
     check("the defaults", list(values(made())) == plain and made() == made(2.0**-26, 2.0**-26, 0.1))
     for n, name in enumerate(("near", "near_zero", "relabel")):
-        for x in (0, 0.0, -0.0, 1, 1.0, True, 2.0**-40, 2.0**-149, 0.5, Fraction(1, 4)):
+        for x in (0, 0.0, -0.0, 1, 1.0, 2.0**-40, 2.0**-149, 0.5, Fraction(1, 4)):
             t = made(**{name: x})
             ok = list(values(t)) == plain[:n] + [float(x)] + plain[n + 1 :] and math.copysign(1, values(t)[n]) == math.copysign(1, x)
             check(f"{name} of {x}", ok and all(type(v) is float for v in values(t)), t)
         beside = (math.nextafter(1, 2), -smallest) if n < 2 else (1 + 2.0**-23, -(2.0**-149))
         for x in (*beside, 2, 2.0, -1, NAN, INF, -INF, 1e300, -1e300, 10**400, -(10**400)):
             refuses(f"{name} of {x}", 18, lambda: made(**{name: x}))
-        for x in ("1", b"1", [], 1j, made()):
+        for x in ("1", b"1", [], 1j, made(), True, False):
             names(f"{name} of {x!r}", TypeError, name, lambda: made(**{name: x}))
     for x, single in ((1 + 1e-9, 1.0), (1 + 2.0**-24, 1.0), (-1e-46, 0.0), (0.1, narrowed(0.1)), (smallest, 0.0), (0.3, narrowed(0.3))):
         check(f"a relabel distance of {x}", made(relabel=x).relabel == single)
@@ -575,6 +577,7 @@ def onsets():
 
     rows = [[1.0, 2.0, 3.0], [4.0, 5.0, 6.0]]
     check("the onset is 0 unless it is said", netthimble.Clip(48000, rows).onset == 0)
+    check("an onset is a plain number", type(netthimble.Clip(48000, rows, onset=Third()).onset) is int)
     check("onsets", [netthimble.Clip(48000, rows, n).onset for n in (0, 1, 2)] == [0, 1, 2] and netthimble.Clip(48000, rows, onset=Third()).onset == 2)
     check("an empty clip's onset is 0", whole(netthimble.Clip(48000, [[], []], 0)) == (48000.0, 0, [[], []], 0))
     for bad in (-1, 3, 2**32, 2**32 + 1, -(2**32), 10**30):
@@ -726,7 +729,6 @@ def wavs():
                 check(f"wav of {8 * width} bits, {channels}", rows == [floats[c::channels] for c in range(channels)])
                 check(f"wav of {8 * width} bits, {channels}, shape", (clip.sample_rate, clip.channels, clip.frames, clip.onset) == (44100.0, channels, 25, 24))
         check("its onset is 0", netthimble.Clip.from_wav(str(path)).onset == 0)
-        check("an onset is a plain number", type(netthimble.Clip(48000, [[0.0] * 2], True).onset) is int)
         refuses("onset of a wav", 17, netthimble.Clip.from_wav, path, 25)
         raises("onset of a wav, no whole number", TypeError, netthimble.Clip.from_wav, path, 1.0)
         raises("no wav", FileNotFoundError, netthimble.Clip.from_wav, Path(folder, "none.wav"))
@@ -735,6 +737,14 @@ def wavs():
         bad = {"8 bits": path.read_bytes(), "nothing": b"", "text": b"text" * 20, "one byte short": sound[:-1]}
         for name, at, byte in (("64 bits", 34, b"\x40"), ("compressed", 20, b"\x11"), ("floats", 20, b"\x03"), ("no channels", 22, b"\0")):
             bad[name] = sound[:at] + byte + sound[at + 1 :]
+        for at, byte, words in ((32, b"\x04", "frames of 4 bytes, where 5 channels of 32 bits take 20"), (22, b"\x04", "frames of 20 bytes, where 4 channels")):
+            path.write_bytes(sound[:at] + byte + sound[at + 1 :])
+            names(f"wav of other frames, {words}", ValueError, f"sound.wav|{words}", netthimble.Clip.from_wav, path)
+        in_four = struct.pack("<HHIIHH", 1, 1, 44100, 4 * 44100, 4, 24)  # 24 bits in containers of 4 bytes
+        path.write_bytes(b"RIFF\x34\0\0\0WAVEfmt \x10\0\0\0" + in_four + b"data\x10\0\0\0" + bytes(range(16)))
+        names("wav of 24 bits in 4 bytes", ValueError, "sound.wav|frames of 4 bytes, where 1 channels of 24 bits take 3", netthimble.Clip.from_wav, path)
+        path.write_bytes(sound[:40] + struct.pack("<I", len(sound) - 46) + sound[44:])
+        names("wav of no whole frames", ValueError, "sound.wav|498 bytes of samples are not whole frames of 20 bytes", netthimble.Clip.from_wav, path)
         bad.update({f"cut to {n}": sound[:n] for n in (1, 4, 8, 12, 19, 35, 36, 43, 44, 300)})
         for name, data in bad.items():
             path.write_bytes(data)
@@ -800,7 +810,7 @@ def bad_calls():
     p.start(0.0)
     p.block(0.0)
     before, refused, fresh = bytes(p._record), netthimble.Refused, netthimble.Player(48000)
-    for bad in ("x", None, [], b"1", 1j, {}, object(), bytearray(b"1")):
+    for bad in ("x", None, [], b"1", 1j, {}, object(), bytearray(b"1"), True, False):
         for name, words, call in (
             ("Player", "Player: sample_rate", lambda: netthimble.Player(bad)),
             ("Clip", "Clip: sample_rate", lambda: netthimble.Clip(bad, [[0.0]])),
@@ -814,11 +824,13 @@ def bad_calls():
             ("block", "block: time", lambda: p.block(bad)),
             ("block", "block: playback_rate", lambda: p.block(1.0, bad)),
             ("preview", "preview: time", lambda: p.preview(bad)),
-            ("loop", "loop: loop must be True or False", lambda: setattr(p, "loop", bad)),
             ("cents", "factor: cents", lambda: netthimble.factor(bad)),
             ("bits", "Clip.from_pcm: bits", lambda: netthimble.Clip.from_pcm(48000, b"", bad)),
             ("onset", "Clip: onset", lambda: netthimble.Clip(48000, [[0.0]], bad)),
             ("set_clip", "set_clip: clip", lambda: p.set_clip(bad)),
+            ("a channel", "Clip: channel must be a whole number", lambda: clip.samples(bad)),
+            ("a tolerance", "Tolerances: near", lambda: netthimble.Tolerances(bad)),
+            ("a bit pattern", "Clip.from_bits: channels[0][0]", lambda: netthimble.Clip.from_bits(48000, [[bad]])),
         ):
             names(f"{name} of {bad!r}", TypeError, words, call)
         if bad is not None:
@@ -826,6 +838,9 @@ def bad_calls():
             names(f"cents {bad!r}", TypeError, "preview: cents", lambda: p.preview(1.0, cents=bad))
             names(f"a duration {bad!r}", TypeError, "start: duration", lambda: p.start(0.0, 0.0, bad))
             names(f"tolerances {bad!r}", TypeError, "Player: tolerances", lambda: netthimble.Player(48000, tolerances=bad))
+    for kind, call in ((TypeError, lambda bad: setattr(p, "loop", bad)), (TypeError, p.set_loop)):
+        for bad in ("x", None, [], 1):
+            names(f"loop of {bad!r}", kind, "loop: loop must be True or False", call, bad)
     huge = 10**400
     for words, call in (
         ("Player(sample_rate=1000|refused with 2: ", lambda: netthimble.Player(huge)),
@@ -860,9 +875,21 @@ def bad_calls():
     names("preview(0, rate=1)", TypeError, "preview has no argument 'rate'|playback_rate", lambda: p.preview(1.0, rate=1))
     names("block(0, detune=1)", TypeError, "'detune'|cents", lambda: p.block(1.0, detune=1))
     names("block(0, other=1)", TypeError, "block has no argument 'other'", lambda: p.block(1.0, other=1))
-    names("Player(rate=1)", TypeError, "Player|sample_rate", lambda: netthimble.Player(48000, rate=48000))
-    names("Clip(rate=1)", TypeError, "Clip|sample_rate", lambda: netthimble.Clip(48000, [[0.0]], rate=48000))
-    names("convert(rate=1)", TypeError, "convert|sample_rate", lambda: clip.convert(48000, rate=48000))
+    for name, call in (("Player", netthimble.Player), ("Clip", netthimble.Clip), ("Clip.convert", clip.convert)):
+        for word in ("rate", "samplerate", "sampleRate"):
+            names(f"{name}({word}=1)", TypeError, f"{name} has no argument {word!r}: likely sample_rate is meant", lambda: call(**{word: 48000}))
+            names(f"{name}(48000, {word}=1)", TypeError, f"{name} has no argument {word!r}: likely sample_rate", lambda: call(48000, **{word: 48000}))
+        names(f"{name}(other=1)", TypeError, f"{name} has no argument 'other'", lambda: call(48000, other=1))
+    for name in ("from_frames", "from_pcm", "from_bits"):
+        words = f"Clip.{name} has no argument 'rate': likely sample_rate is meant"
+        names(f"{name}(rate=1)", TypeError, words, lambda: getattr(netthimble.Clip, name)(rate=48000))
+    names("from_wav(rate=1)", TypeError, "Clip.from_wav has no argument 'rate'|Clip.convert(sample_rate)", lambda: netthimble.Clip.from_wav("x", rate=1))
+    for word in ("rate", "playback_rate", "playbackRate"):
+        names(f"start({word}=1)", TypeError, f"start has no argument {word!r}: likely playback_rate of block", lambda: p.start(**{word: 1}))
+    for name in ("block", "preview"):
+        words = f"{name} has no argument 'playbackRate': likely playback_rate is meant"
+        names(f"{name}(playbackRate=1)", TypeError, words, lambda: getattr(p, name)(1.0, playbackRate=1))
+    check("the calls show their arguments", str(inspect.signature(p.block)).startswith("(time: 'float', playback_rate: 'float' = 1.0, "))
     names("load of no file", FileNotFoundError, "no such file", netthimble.load, "no such file")
     names("load of a number", TypeError, "load: source", netthimble.load, 5)
     names("save to a number", TypeError, "Clip.save: path", clip.save, 5)
@@ -872,6 +899,92 @@ def bad_calls():
     names("a channel of another kind", TypeError, "channel", clip.samples, 0.0)
     names("pickled", TypeError, "copy()", pickle.dumps, p)
     check("nothing changed", before == bytes(p._record) and not fresh.has_start and fresh.clip is None)
+
+
+def paths():
+    """What is no path, a file that cannot be read, and one that is far longer than a clip file: the error has the path that was given."""
+    clip = netthimble.Clip(48000, [[0.5]])
+    with tempfile.TemporaryDirectory() as folder:
+        wav, large = Path(folder, "sound.wav"), Path(folder, "large.bin")
+        put_wav(wav, 1, 2, bytes(8))
+        calls = (netthimble.load, "load: source"), (netthimble.load_old, "load_old: source"), (netthimble.Clip.from_wav, "Clip.from_wav: path")
+        for call, words in (*calls, (clip.save, "Clip.save: path")):
+            for bad in ("a\0b", Path("a\0b"), "\ud800"):
+                names(f"{words} {bad!r}", ValueError, f"{words}|is no path", call, bad)
+            try:
+                call("")
+            except OSError as wrong:
+                check(f"{words} of no letters", type(wrong) is FileNotFoundError and wrong.filename == "", wrong)
+        for call, words in calls:
+            for path in ("/proc/self/mem", Path("/proc/self/mem"), folder):  # the first is opened, and cannot be read
+                try:
+                    call(path)
+                    check(f"{words} {path}", False, "read")
+                except OSError as wrong:
+                    check(f"{words} {path}", wrong.filename == str(path) and wrong.errno, wrong)
+        with open(large, "wb") as file:
+            file.truncate(2**40)
+        names("a file of 2^40 bytes", netthimble.Refused, "large.bin|refused with 15: ", netthimble.load, large)
+        large.write_bytes(clip.to_bytes().ljust(65536, b"\0"))
+        refuses("a file of 65,536 bytes that is none", 15, netthimble.load, large)
+        longest = netthimble.Clip(48000, [array("f", [0.5] * 16379)])
+        longest.save(large)
+        check("the longest clip file", whole(netthimble.load(large)) == whole(longest))
+    gone = memoryview(clip.to_bytes())
+    gone.release()
+    names("load of memory that was released", ValueError, "load: source cannot be read", netthimble.load, gone)
+
+
+def memories():
+    """Memory of other forms: released, of no numbers in two dimensions, and in the other order of bytes."""
+    clip, frames, bits, pcm = netthimble.Clip, netthimble.Clip.from_frames, netthimble.Clip.from_bits, netthimble.Clip.from_pcm
+    gone = memoryview(array("f", [0.5]))
+    gone.release()
+    for words, call in (
+        ("Clip: channels[0]", lambda: clip(48000, [gone])),
+        ("Clip: channels", lambda: clip(48000, gone)),
+        ("Clip.from_frames: frames", lambda: frames(48000, gone)),
+        ("Clip.from_pcm: data", lambda: pcm(48000, gone, 16)),
+        ("Clip.from_bits: channels[0]", lambda: bits(48000, [gone])),
+    ):
+        names(f"{words}, released", ValueError, f"{words} cannot be read: ", call)
+    for code in "fdiIhBc":
+        table = (ctypes.c_char * 0).from_buffer(bytearray()) if code == "c" else (ctypes.c_float * 0 * 2)() if code == "f" else None
+        if table is None:
+            table = ({"d": ctypes.c_double, "i": ctypes.c_int32, "I": ctypes.c_uint32, "h": ctypes.c_int16, "B": ctypes.c_uint8}[code] * 0 * 2)()
+        if code in "fd":
+            check(f"two rows of no numbers, {code}", held(clip(48000, table)) == (48000.0, 0, [[], []]))
+            names(f"no columns, {code}", netthimble.Refused, "Clip.from_frames(0 channels of 0 frames): refused with 1: ", frames, 48000, table)
+            none = (type(table[0])._type_ * 2 * 0)()
+            check(f"no frames of two channels, {code}", held(frames(48000, none)) == (48000.0, 0, [[], []]))
+            names(f"no rows, {code}", netthimble.Refused, "Clip(0 channels of 0 frames): refused with 1: ", clip, 48000, none)
+        else:
+            names(f"whole numbers, none of them, {code}", TypeError, "Clip: channels", clip, 48000, table)
+    check("bit patterns, none of them", held(bits(48000, (ctypes.c_uint32 * 0 * 2)())) == (48000.0, 0, [[], []]))
+    check("whole numbers, no frames", held(pcm(48000, (ctypes.c_int16 * 2 * 0)(), 16)) == (48000.0, 0, [[], []]))
+    check("memory of no bytes", pcm(48000, memoryview(b"").cast("B"), 24).frames == 0)
+    other = ctypes.c_double.__ctype_be__
+    for given in ((other * 3 * 2)(), (other * 3)(), [(other * 3)()], (ctypes.c_bool * 3 * 2)()):
+        for words, call in (("Clip: channels", clip), ("Clip.from_frames: frames", frames)):
+            if call is clip or not isinstance(given, list):  # a list of frames is gone through
+                names(f"{words}, another form", TypeError, f"{words}|must ", call, 48000, given)
+    names("whole numbers in the other order", TypeError, "Clip.from_pcm: data must hold", pcm, 48000, (ctypes.c_int16.__ctype_be__ * 3 * 2)(), 16)
+
+
+def shifted():
+    """24 bits that stand in the upper ones of 32: no call plays them 48 dB too loud without a word."""
+    pcm, words = netthimble.Clip.from_pcm, "shifted up, as soundfile's int32: bits=32|16-bit values in 24 go in as bits=16"
+    quiet, loud = [256 * n for n in (1, -3, 0, 32767)], [256 * n for n in (1, -8388608, 8388607)]
+    for given in (quiet, loud, [256], [-256, 0], [-(2**23)]):
+        for made in (given, tuple(given), array("i", given), memoryview(array("i", given)), (ctypes.c_int32 * len(given))(*given)):
+            names(f"{given[:2]} in 24 bits from {type(made).__name__}", ValueError, f"Clip.from_pcm: data has |{words}", pcm, 48000, made, 24)
+        same_clip(f"{given[:2]} in 32 bits", pcm(48000, array("i", given), 32), [[x / 2**31 for x in given]])
+    names("out of 24 bits", ValueError, f"samples of 24 bits are -8388608 to 8388607|{words}", pcm, 48000, [2**23 + 1], 24)
+    for given in ([0, 0], [], [256, 1], [255], [257, 0]):
+        same_clip(f"{given} in 24 bits", pcm(48000, array("i", given), 24), [[x / 2**23 for x in given]])
+    same_clip("packed bytes stay as they are", pcm(48000, (256).to_bytes(3, "little"), 24), [[256 / 2**23]])
+    same_clip("16 bits stay as they are", pcm(48000, [256, -512], 16), [[256 / 2**15, -512 / 2**15]])
+    check("said in the docstring", "bits=32; 16-bit values in 24 go in as bits=16" in " ".join(pcm.__doc__.split()))
 
 
 def errors():
@@ -1107,6 +1220,29 @@ def numpy_kinds():
     check("numpy bits", list(bits(48000, numpy.array([[0x7F800001, 2]], "u4")).bits(0)) == [0x7F800001, 2])
     for kind in ("i4", "u8", "f4"):
         names(f"numpy bits of {kind}", TypeError, "Clip.from_bits", bits, 48000, numpy.zeros((1, 9), kind))
+    many = numpy.arange(-40000, 40000, dtype="i4")
+    for given in (many * 256, (many * 256).reshape(-1, 2), numpy.int32([[256, 512], [0, -256]])):
+        names(f"numpy's 24 bits shifted up, {given.shape}", ValueError, "Clip.from_pcm: data has |soundfile's int32: bits=32", pcm, 48000, given, 24)
+    check("numpy's 24 bits", pcm(48000, many, 24).frames == len(many))
+    same_clip("many doubles", clip(48000, [array("d", [0.1, -0.25] * 40000)]), [[0.1, -0.25] * 40000])
+    names("a bad one of many doubles", ValueError, "Clip: channels[0][79999] is 1e+39, which is past", clip, 48000, [array("d", [0.0] * 79999 + [1e39])])
+    masked = numpy.ma.array([[0.5, 0.25, 0.125]] * 2, mask=[[0, 1, 0], [0, 0, 0]])
+    whole_ones = numpy.ma.array([1, 2, 3], "i2", mask=[0, 1, 0])
+    for words, call in (
+        ("Clip: channels has masked samples", lambda: clip(48000, masked)),
+        ("Clip: channels[1] has masked samples", lambda: clip(48000, [masked[1], masked[0]])),
+        ("Clip.from_frames: frames has masked samples", lambda: frames(48000, masked.T)),
+        ("Clip.from_frames: frames has masked samples", lambda: frames(48000, masked[0])),
+        ("Clip.from_pcm: data has masked samples", lambda: pcm(48000, whole_ones, 16)),
+        ("Clip.from_bits: channels[0] has masked samples", lambda: bits(48000, [whole_ones.astype("u4")])),
+    ):
+        names(words, TypeError, f"{words}|filled(0.0)", call)
+    same_clip("what is filled", clip(48000, masked.filled(0.0)), [[0.5, 0.0, 0.125], [0.5, 0.25, 0.125]])
+    same_clip("a mask of nothing", clip(48000, masked[1:]), [[0.5, 0.25, 0.125]])
+    for shape in ((2, 0), (0, 2)):
+        same_clip(f"numpy's memory of the shape {shape}", (clip if shape[0] else frames)(48000, memoryview(numpy.zeros(shape, "f4"))), [[], []])
+    for kind in (">f4", ">f8"):
+        names(f"numpy's memory of {kind}", TypeError, "Clip: channels must hold floats", clip, 48000, memoryview(numpy.zeros((2, 3), kind)))
     p = netthimble.Player(numpy.float32(48000))
     p.set_clip(clip(numpy.int32(48000), [[0.5] * 9], numpy.int64(2)))
     p.start(numpy.float64(0), numpy.float32(0))
@@ -1115,6 +1251,10 @@ def numpy_kinds():
         check(f"numpy's {on}", p.loop is bool(on))
     for bad in (numpy.int64(1), numpy.float64(1), numpy.array([True]), numpy.array(True)):
         names(f"numpy's loop {bad!r}", TypeError, "loop: loop", setattr, p, "loop", bad)
+    for bad in (numpy.True_, numpy.False_, numpy.array(True)):
+        names(f"numpy's time {bad!r}", TypeError, "block: time must be a number", p.block, bad)
+        names(f"numpy's cents {bad!r}", TypeError, "factor: cents must be a whole number", netthimble.factor, bad)
+        names(f"numpy's bits {bad!r}", TypeError, "Clip.from_bits: channels[0]", bits, 48000, [[bad]])
     for bad in (numpy.complex64(1), numpy.complex128(1), numpy.array([1.0]), numpy.array([1.0, 2.0]), numpy.str_("1")):
         names(f"numpy's time {bad!r}", TypeError, "block: time", p.block, bad)
     block = p.block(numpy.float64(0), numpy.float32(1), cents=numpy.int16(0))
@@ -1163,20 +1303,107 @@ def two_threads():
     check("two threads", not wrong and sent > 100, f"{len(wrong)} jumps, {wrong[:3]}, beside {sent} messages")
 
 
-def nested():
-    """A call in the midst of another of the same player and thread, as from a signal's handler, is an error and no lost block."""
+RAISING = """
+import signal, sys, threading, time
+import netthimble
+clip = netthimble.Clip(48000, [[(n + 1) / 1024 for n in range(300)]])
+p = netthimble.Player(48000)
+p.start()
+class Stop(Exception): pass
+def handler(*_):
+    global is_armed
+    if is_armed:
+        is_armed = False
+        raise Stop
+is_armed, raised, begun = False, 0, time.monotonic()
+signal.signal(signal.SIGALRM, handler)
+while time.monotonic() - begun < float(sys.argv[1]):
+    try:
+        is_armed = True
+        signal.setitimer(signal.ITIMER_REAL, 0.00002 + 0.0000007 * (raised % 60), 0.002)
+        while True:
+            p.loop = True; p.loop_start = 0.0; p.loop = False; p.loop_end = 0.0; p.stop(1e9); p.position
+    except Stop: raised += 1
+signal.setitimer(signal.ITIMER_REAL, 0)
+told = []
+def other():
+    p.set_clip(clip); p.loop = True; told.append((p.position, p.clip is clip, p.block(0.0).samples[0][299 % 128], p.loop, p.copy().loop))
+thread = threading.Thread(target=other, daemon=True)
+thread.start()
+thread.join(20)
+assert told == [(0.0, True, (299 % 128 + 1) / 1024, True, True)], told
+assert raised > 100, raised
+print(f"{raised} raises", end="")
+"""
+
+
+def signals():
+    """Messages in a signal's handler, in the midst of blocks and of other messages; and handlers that raise in the midst of a message."""
+    done = run([sys.executable, "-B", "-W", "error", "-c", RAISING, 2], env=dict(os.environ, PYTHONPATH=str(TOP / "python")), timeout=60)
+    check("a handler that raises", done.returncode == 0, done.stdout.decode())
+    p, q, told, wrong, blocks = netthimble.Player(48000), netthimble.Player(48000), [0], [], 20000
+    for player in (p, q):
+        player.set_clip(netthimble.Clip(48000, [[(n + 1) / 1024 for n in range(300)]]))
+        player.start()
+        player.loop = True
+
+    def handler(*_):
+        told[0] += 1
+        p.stop(1e9)
+        p.loop_end = 0.0
+        p.preview(1e6)
+        q.block(told[0])
+
+    former = signal.signal(signal.SIGALRM, handler)
+    signal.setitimer(signal.ITIMER_REAL, 0.0005, 0.0005)
+    try:
+        for n in range(blocks):
+            samples = p.block(128 * n / 48000).samples[0]
+            if (samples[0], samples[127]) != (((128 * n) % 300 + 1) / 1024, ((128 * n + 127) % 300 + 1) / 1024):
+                wrong.append(n)
+    except Exception as failure:
+        wrong.append(failure)
+    finally:
+        signal.setitimer(signal.ITIMER_REAL, 0)
+        signal.signal(signal.SIGALRM, former)
+    check("a handler that stops", not wrong and told[0] > 20, f"{wrong[:3]}, {len(wrong)} of {blocks}, {told[0]} signals")
+    check("what it told", p._record.stop_time == 1e9 and q.position > 0 and not p.ended)
+
+
+def halves():
+    """`set_clip` that is interrupted on either side of the library's call leaves a player that can go on."""
+    clip, other, call = netthimble.Clip(48000, [[0.5] * 300]), netthimble.Clip(48000, [[0.25] * 9]), netthimble.players.CALL
+    known = call["player_set_buffer"]
+
+    def cut(is_called):
+        def told(*given):
+            if is_called:
+                known(*given)
+            raise KeyboardInterrupt
+
+        p = netthimble.Player(48000)
+        p.start()
+        call["player_set_buffer"] = told
+        try:
+            p.set_clip(clip)
+        except KeyboardInterrupt:
+            pass
+        finally:
+            call["player_set_buffer"] = known
+        return p
+
+    p = cut(False)
+    check("before the call", p.clip is None and p.copy().clip is None)
+    q = p.copy()
+    check("no clip before the call", q.block(0.0).channels == 1 and q.ended)
+    p.set_clip(other)
+    check("another clip then", p.clip is other and p.block(0.0).samples[0][0] == 0.25)
+    p = cut(True)
+    refuses("a clip after the call", 10, p.set_clip, other)
+    check("after the call", p.clip is clip and p.block(0.0).samples[0][0] == 0.5)
     p = netthimble.Player(48000)
-    p.set_clip(netthimble.Clip(48000, [[0.5] * 300]))
-    p.start()
-    before = bytes(p._record)
-    p._is_busy = True
-    calls = {"block": lambda: p.block(0.0), "preview": lambda: p.preview(0.0), "loop": lambda: p.set_loop(True)}
-    calls.update({"stop": lambda: p.stop(1.0), "set_clip": lambda: p.set_clip(p.clip)})
-    for name, call in calls.items():
-        names(f"{name} within a call", RuntimeError, f"{name}: another call of this player", call)
-        check(f"{name} within a call leaves the mark", p._is_busy)
-    p._is_busy = False
-    check("nothing changed by them", before == bytes(p._record) and p.block(0.0).samples[0][0] == 0.5)
+    refuses("an empty clip", 12, p.set_clip, netthimble.Clip(48000, [[]]))
+    check("an empty clip is none", p.clip is None and p.copy().clip is None and p.block(0.0).channels == 1)
 
 
 def memory():
@@ -1258,14 +1485,18 @@ def speed():
     data, told = array("h", [(7 * n) % 20001 - 10000 for n in range(1000)] * (count // 1000)).tobytes(), []
     path = Path(folder.name, "minute.wav")
     put_wav(path, 1, 2, data, 48000)
-    floats = array("f", bytes(4 * count))
+    floats, doubles, short, long = array("f", bytes(4 * count)), array("d", bytes(8 * count)), array("h", data), array("i", range(count))
     try:
         import numpy
     except ImportError:
         numpy = None
     ways = [("array('f')", True, lambda: netthimble.Clip(48000, [floats])), ("WAV of 16 bits", numpy is not None, lambda: netthimble.Clip.from_wav(path))]
+    ways += [("array('d')", True, lambda: netthimble.Clip(48000, [doubles])), ("array('h')", bool(numpy), lambda: netthimble.Clip.from_pcm(48000, short, 16))]
+    ways += [("24 bits in array('i')", bool(numpy), lambda: netthimble.Clip.from_pcm(48000, long, 24))]
     if numpy is not None:
         single, double = numpy.zeros(count, "f4"), numpy.zeros(count, "f8")
+        wide = numpy.arange(count, dtype="i4")
+        ways += [("24 bits in NumPy's i4", True, lambda: netthimble.Clip.from_pcm(48000, wide, 24))]
         ways += [("NumPy's f4", True, lambda: netthimble.Clip(48000, [single])), ("NumPy's f8", True, lambda: netthimble.Clip(48000, [double]))]
     for name, is_bound, make in ways:
         took = []
@@ -1325,6 +1556,9 @@ def typed():
         for name, member in vars(made).items() if isinstance(made, type) else ():
             if name[0] != "_" and (callable(member) or isinstance(member, (property, classmethod))):
                 check(f"{module}.{name} has a docstring", getattr(member, "__func__", member).__doc__)
+    for name in ("bits", "samples", "channels", "keep_alive", "ended", "position"):
+        check(f"Block.{name} is described", inspect.getdoc(getattr(netthimble.Block, name)) or netthimble.Block.__slots__.get(name))
+    check("Player.position is described", "0 until it plays, whatever the offset; then where the next block goes on" in netthimble.Player.position.__doc__)
     mypy = shutil.which("mypy")
     if mypy is None:
         print("python: mypy is not installed, so the annotations are not checked")
@@ -1361,6 +1595,8 @@ def versions():
             continue
         done = run([found, "-B", "-W", "error", "-c", SMOKE], env=dict(os.environ, PYTHONPATH=str(TOP / "python")))
         check(f"in python3.{minor}", done.returncode == 0 and not done.stdout, done.stdout.decode())
+        done = run([found, "-B", "-W", "error", "-c", RAISING, 1], env=dict(os.environ, PYTHONPATH=str(TOP / "python")), timeout=60)
+        check(f"a handler that raises, in python3.{minor}", done.returncode == 0, done.stdout.decode())
         tried.append(f"3.{minor}")
     print(f"python: tried in {', '.join(tried) or 'no other Python than this one'}")
 
@@ -1392,15 +1628,23 @@ def around():
     check("import without the library", done.returncode != 0 and b"tools/build_library" in done.stdout, done.stdout.decode())
     with tempfile.TemporaryDirectory() as folder:
         sizes = ("player", 144, "are not those"), ("options", 16, "are not those"), ("player", 168, ""), ("options", 24, "")
-        for call, size, words in (*sizes, (None, 0, "is older")):
+        for call, size, words in (*sizes, (None, 0, "has no netthimble_player_size: it is another library")):
             check(f"import with {call} {size}", *imported(folder, call, size, words))
+        early = "has no netthimble_options_size: it is older than this package"
+        check("import of an early library", *imported(folder, "player", 168, early, is_alone=True))
+        bare = dict(os.environ, NETTHIMBLE_LIBRARY="libnetthimble.so", PYTHONPATH=str(TOP / "python"))
+        done = subprocess.run([sys.executable, "-B", "-c", "import netthimble"], stdout=subprocess.PIPE, stderr=subprocess.STDOUT, env=bare, cwd=TOP / "target/c")
+        check("import by a bare name, in its folder", done.returncode == 0 and not done.stdout, done.stdout.decode())
+        done = subprocess.run([sys.executable, "-B", "-c", "import netthimble"], stdout=subprocess.PIPE, stderr=subprocess.STDOUT, env=bare, cwd=folder)
+        check("import by a bare name, elsewhere", f"{os.path.realpath(folder)}/libnetthimble.so is not there" in done.stdout.decode(), done.stdout.decode())
 
 
-def imported(folder, call, size, words):
-    """Whether an import ends with `words`, or well if they are none. The library is ours with another size of one record; or an empty one."""
+def imported(folder, call, size, words, is_alone=False):
+    """Whether an import ends with `words`, or well if they are none. The library is ours with another size of one record, or without ours; or an
+    empty one."""
     source, library = Path(folder, "sizes.c"), Path(folder, f"{call}{size}.so")
     source.write_text(f"unsigned long netthimble_{call}_size(void) {{ return {size}; }}\n" if call else "int nothing;\n")
-    under = [f"-L{TOP}/target/c", "-Wl,--no-as-needed", "-lnetthimble", f"-Wl,-rpath,{TOP}/target/c"] if call else []
+    under = [f"-L{TOP}/target/c", "-Wl,--no-as-needed", "-lnetthimble", f"-Wl,-rpath,{TOP}/target/c"] if call and not is_alone else []
     subprocess.run([os.environ.get("CC", "cc"), "-shared", "-fPIC", "-o", library, source, *under], check=True)
     env = dict(os.environ, NETTHIMBLE_LIBRARY=str(library), PYTHONPATH=str(TOP / "python"))
     done = subprocess.run([sys.executable, "-B", "-c", "import netthimble"], stdout=subprocess.PIPE, stderr=subprocess.STDOUT, env=env, cwd="/")
@@ -1434,6 +1678,9 @@ def main():
     wavs()
     converted_onsets()
     bad_calls()
+    paths()
+    memories()
+    shifted()
     errors()
     flags()
     readings()
@@ -1443,7 +1690,8 @@ def main():
     whole_kinds()
     numpy_kinds()
     two_threads()
-    nested()
+    signals()
+    halves()
     memory()
     modes()
     meter()

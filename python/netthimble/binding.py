@@ -11,7 +11,7 @@ from ctypes import POINTER, c_bool, c_double, c_float, c_int32, c_size_t, c_uint
 from pathlib import Path
 from typing import Any, Dict, List, Optional, Tuple
 
-from .errors import Refused
+from .errors import Refused, shown
 
 FRAMES = 128  # frames of a block
 NEVER = 1.7976931348623157e308  # the largest double: a duration that is none
@@ -85,10 +85,6 @@ class Tolerated(ctypes.Structure):
     _fields_ = [("tolerances", TolerancesRecord), ("refusal", c_uint32)]
 
 
-class Told(ctypes.Structure):
-    _fields_ = [("player", PlayerRecord), ("refusal", c_uint32)]
-
-
 class BlockRecord(ctypes.Structure):
     _fields_ = [("position", c_double), ("channels", c_size_t), ("refusal", c_uint32), ("keep_alive", c_bool), ("ended", c_bool)]
 
@@ -115,18 +111,19 @@ _WORDS, _BYTES, _PLAYER = POINTER(c_uint32), POINTER(c_uint8), POINTER(PlayerRec
 _RENDERED: List[Any] = [_PLAYER, _WORDS, c_size_t, _WORDS, c_size_t, c_double, c_float]
 
 # These take microseconds, and keep Python's interpreter meanwhile: a thread that let go of it for a block, as ctypes does, might get it
-# back only when another has worked for 5 ms, which is longer than a block lasts.
+# back only when another has worked for 5 ms, which is longer than a block lasts. So each is one step for other threads, and for a signal's
+# handler, which runs before it or after it.
 SHORT: Dict[str, Tuple[Any, List[Any]]] = {
     "player_size": (c_size_t, []),
     "options_size": (c_size_t, []),
     "default_options": (Options, []),
     "tolerances_new": (Tolerated, [c_double, c_double, c_float]),
-    "new_with": (Told, [c_float, Options]),
-    "start": (Told, [PlayerRecord, c_double, c_double, c_double]),
-    "stop": (Told, [PlayerRecord, c_double]),
-    "loop": (Told, [PlayerRecord, c_bool]),
-    "loop_start": (Told, [PlayerRecord, c_double]),
-    "loop_end": (Told, [PlayerRecord, c_double]),
+    "player_new_with": (c_uint32, [_PLAYER, c_float, Options]),
+    "player_start": (c_uint32, [_PLAYER, c_double, c_double, c_double]),
+    "player_stop": (c_uint32, [_PLAYER, c_double]),
+    "player_loop": (c_uint32, [_PLAYER, c_bool]),
+    "player_loop_start": (c_uint32, [_PLAYER, c_double]),
+    "player_loop_end": (c_uint32, [_PLAYER, c_double]),
     "player_set_buffer": (c_uint32, [_PLAYER, c_size_t, c_size_t, c_float, _WORDS, c_size_t]),
     "player_process": (BlockRecord, [*_RENDERED, c_double]),
     "player_process_cents": (BlockRecord, [*_RENDERED, c_int32]),
@@ -150,7 +147,8 @@ LONG: Dict[str, Tuple[Any, List[Any]]] = {
 
 def _load() -> Dict[str, Any]:
     """The library's calls by their names; an ImportError says why it cannot be used."""
-    path = os.environ.get("NETTHIMBLE_LIBRARY") or str(Path(__file__).resolve().parents[2] / "target/c/libnetthimble.so")
+    named = os.environ.get("NETTHIMBLE_LIBRARY") or Path(__file__).resolve().parents[2] / "target/c/libnetthimble.so"
+    path = os.path.abspath(named)  # a bare name would be looked for in the system's folders, and not in this one
     if not Path(path).is_file():
         raise ImportError(f"netthimble: {path} is not there. Build it with tools/build_library, or name it in NETTHIMBLE_LIBRARY")
     try:
@@ -161,7 +159,8 @@ def _load() -> Dict[str, Any]:
     for library, table in opened:
         for name, (answer, given) in table.items():
             if not hasattr(library, "netthimble_" + name):
-                raise ImportError(f"netthimble: {path} has no netthimble_{name}: it is older than this package. Build it with tools/build_library")
+                why = "it is older than this package" if calls else "it is another library, or one that is far older than this package"
+                raise ImportError(f"netthimble: {path} has no netthimble_{name}: {why}. Build it with tools/build_library")
             call: Any = getattr(library, "netthimble_" + name)
             call.restype, call.argtypes = answer, given
             calls[name] = call
@@ -175,10 +174,10 @@ CALL = _load()
 DEFAULTS: TolerancesRecord = CALL["default_options"]().tolerances
 
 
-def check(call: str, refusal: int, argument: Optional[str] = None) -> None:
-    """Raises what the library refused."""
+def check(call: str, refusal: int, argument: Optional[str] = None, *value: Any) -> None:
+    """Raises what the library refused: about an argument in words, or by its name and its value, which is looked at only then."""
     if refusal:
-        raise Refused(call, refusal, argument)
+        raise Refused(call, refusal, f"{argument}={shown(value[0])}" if value else argument)
 
 
 # ---- the thread's floating-point mode

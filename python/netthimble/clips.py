@@ -8,11 +8,11 @@ import shutil
 from array import array
 from ctypes import c_float, c_uint8, c_uint32
 from pathlib import Path
-from typing import Any, Iterable, NoReturn, Optional, Tuple, Type, TypeVar, Union
+from typing import Any, Iterable, Optional, Tuple, Type, TypeVar, Union
 
 from . import samples as _samples
 from . import wav as _wav
-from .arguments import kind, no_more, number, whole
+from .arguments import RATES, kind, number, of_path, path_of, takes, whole
 from .binding import CALL, DEFAULTS, Shape, check, check_floats
 from .errors import Refused, shown
 from .tolerances import Tolerances, record_of
@@ -22,7 +22,8 @@ __all__ = ["Clip", "load", "load_old"]
 PathLike = Union[str, "os.PathLike[str]"]
 Source = Union[PathLike, bytes, bytearray, memoryview]
 _C = TypeVar("_C", bound="Clip")
-_NAMES = {"rate": "sample_rate", "samplerate": "sample_rate"}
+LONGEST = 65536  # the bytes of the longest clip file
+_FILES = dict.fromkeys(("sample_rate", *RATES), "Clip.convert(sample_rate), which is for another rate than the file's,")
 
 
 class Clip:
@@ -45,11 +46,12 @@ class Clip:
     _onset: int
     _lent: "ctypes.Array[c_uint32]"
 
-    def __init__(self, sample_rate: float, channels: Iterable[Any], onset: int = 0, **misnamed: NoReturn) -> None:
-        no_more("Clip", misnamed, _NAMES)
+    @takes("Clip", RATES)
+    def __init__(self, sample_rate: float, channels: Iterable[Any], onset: int = 0) -> None:
         self._make("Clip", sample_rate, _samples.channel_rows("Clip", "channels", channels), onset, _samples.FROM_FRAMES)
 
     @classmethod
+    @takes("Clip.from_frames", RATES)
     def from_frames(cls: Type[_C], sample_rate: float, frames: Iterable[Any], onset: int = 0) -> _C:
         """A clip of floats in frames by channels, one row a frame, as soundfile and sounddevice have them: NumPy's floats of the shape
         (frames, channels), or a list of rows; or one float a frame, for one channel.
@@ -58,6 +60,7 @@ class Clip:
         return cls.__new__(cls)._make("Clip.from_frames", sample_rate, _samples.frame_rows("Clip.from_frames", "frames", frames), onset, _samples.FROM_ROWS)
 
     @classmethod
+    @takes("Clip.from_pcm", RATES)
     def from_pcm(cls: Type[_C], sample_rate: float, data: Any, bits: int, channels: Optional[int] = None, onset: int = 0) -> _C:
         """A clip of whole numbers of `bits` bits: signed ones of 16, 24 or 32, unsigned ones of 8, where 128 is silence. Each is divided by
         2^(bits-1), so full scale is -1 to 1; up to 24 bits that is exact, and of 32 bits it is rounded once, to the nearest f32.
@@ -65,6 +68,9 @@ class Clip:
         `data` is packed bytes, the lowest byte of a sample first, as in a WAV file; or whole numbers, as array('h') or int16 for 16 bits,
         array('i') or int32 for 24 and 32, uint8 for 8, or a list. They are interleaved, `channels` to a frame (1 if it is left out); or NumPy's
         in the shape (frames, channels).
+
+        Numbers of 24 bits that are all multiples of 256, and not all 0, are a ValueError, and would play 48 dB too loud: these are likely samples
+        shifted up, as soundfile's int32: bits=32; 16-bit values in 24 go in as bits=16.
 
         TypeError: numbers of another size, or floats. ValueError: other bits; a number that has more bits; data that is not whole frames.
         Refused: 1, 2, 17, as at `Clip`."""
@@ -76,6 +82,7 @@ class Clip:
         return cls.__new__(cls)._make(call, sample_rate, _samples.pcm_rows(call, data, bits, channels), onset, "")
 
     @classmethod
+    @takes("Clip.from_bits", RATES)
     def from_bits(cls: Type[_C], sample_rate: float, channels: Iterable[Any], onset: int = 0) -> _C:
         """A clip of f32 bit patterns, whole numbers from 0 to 2^32 - 1, which are kept as they are, infinities and NaNs too: a row for each
         channel, as array('I'), NumPy's uint32, or a list.
@@ -85,14 +92,14 @@ class Clip:
         return cls.__new__(cls)._make(call, sample_rate, _samples.channel_rows(call, "channels", channels, _samples.bit_row), onset, "")
 
     @classmethod
+    @takes("Clip.from_wav", _FILES)
     def from_wav(cls: Type[_C], path: PathLike, onset: int = 0) -> _C:
-        """The sound of a WAV file of whole-number samples of 16, 24 or 32 bits, scaled as `from_pcm` says. OSError and ValueError, which name
-        the file, say why it cannot be read; Refused: 1, 2, 17, as at `Clip`."""
+        """The sound of a WAV file of whole-number samples of 16, 24 or 32 bits, packed, scaled as `from_pcm` says. OSError and ValueError, which
+        name the file, say why it cannot be read; Refused: 1, 2, 17, as at `Clip`."""
         call = "Clip.from_wav"
-        if not isinstance(path, (str, os.PathLike)):
-            raise TypeError(f"{call}: path must be a path, not {kind(path)}")
+        named = path_of(call, "path", path)
         check_floats()
-        rate, rows = _wav.rows_of(path)
+        rate, rows = _wav.rows_of(named)
         return cls.__new__(cls)._make(call, rate, rows, onset, "")
 
     def _make(self: _C, call: str, sample_rate: Any, rows: _samples.Rows, onset: Any, other_layout: str) -> _C:
@@ -186,22 +193,22 @@ class Clip:
 
     # ---- what is made of it
 
-    def convert(self, sample_rate: float, *, tolerances: Optional[Tolerances] = None, **misnamed: NoReturn) -> "Clip":
+    @takes("Clip.convert", RATES)
+    def convert(self, sample_rate: float, *, tolerances: Optional[Tolerances] = None) -> "Clip":
         """The clip at another sample rate (docs/REFERENCE.md, 'Conversion'). Within the relabel distance of its own, 0.1 where no `tolerances`
         are handed in, the rate alone changes; else frame i is read at i x the own rate / `sample_rate`, so it stands at the same instant,
         between two frames weighted, and past the last one with its bits. There is no filter: to a lower rate, what is above half of it is
         folded down. The onset is the frame nearest to its instant, or the last one.
 
         Refused: 2 (the sample rate), 7 (the result has over 16,777,216 frames)."""
-        no_more("Clip.convert", misnamed, _NAMES)
         record, rate = record_of("Clip.convert", tolerances), number("Clip.convert", "sample_rate", sample_rate)
         check_floats()
         source, length = self._shape, len(self._lent)
         made = CALL["converted_shape_with"](source, length, rate, record)
-        check("Clip.convert", made.refusal, f"sample_rate={shown(sample_rate)}")
+        check("Clip.convert", made.refusal, "sample_rate", sample_rate)
         words = (c_uint32 * (made.shape.channels * made.shape.frames))()
         made = CALL["convert_with"](source, self._lent, length, rate, record, words, len(words))
-        check("Clip.convert", made.refusal, f"sample_rate={shown(sample_rate)}")
+        check("Clip.convert", made.refusal, "sample_rate", sample_rate)
         is_relabelled = self._frames == 0 or abs(c_float(self._sample_rate - made.shape.rate).value) <= record.relabel
         onset = self._onset if is_relabelled else _moved(self._onset, self._sample_rate, made.shape.rate, made.shape.frames)
         return Clip._of(made.shape, words, onset)
@@ -224,9 +231,8 @@ class Clip:
     def save(self, path: PathLike) -> None:
         """Writes the clip file, with the new header. A clip that is refused (15, as `to_bytes`), and one that cannot be written, which is an
         OSError that names `path`, leaves what stood there."""
-        if not isinstance(path, (str, os.PathLike)):
-            raise TypeError(f"Clip.save: path must be a path, not {kind(path)}")
-        _replace(Path(path), self._file("Clip.save"))
+        named = path_of("Clip.save", "path", path)
+        _replace(named, self._file("Clip.save"))
 
 
 def _again(cls: Type[_C], sample_rate: float, channels: "list[array[int]]", onset: int) -> _C:
@@ -250,14 +256,30 @@ def _read(call: str, source: Any, header: str, frames: str) -> Tuple[Any, "ctype
     if not isinstance(source, (bytes, bytearray, memoryview, str, os.PathLike)):
         raise TypeError(f"{call}: source must be a path, or a file's bytes, not {kind(source)}")
     check_floats()
-    data = bytes(source) if isinstance(source, (bytes, bytearray, memoryview)) else Path(source).read_bytes()
-    given = f"{len(data)} bytes" if isinstance(source, (bytes, bytearray, memoryview)) else shown(os.fspath(source))
+    if isinstance(source, (bytes, bytearray, memoryview)):
+        try:
+            data = bytes(source)
+        except ValueError as wrong:  # memory that was released
+            raise ValueError(f"{call}: source cannot be read: {wrong}") from None
+        given = f"{len(data)} bytes"
+    else:
+        path = path_of(call, "source", source)
+        data, given = _first_bytes(path), shown(path)
     file = (c_uint8 * len(data)).from_buffer_copy(data)
     read = CALL[header](file, len(data))
     check(call, read.refusal, given)
     words = (c_uint32 * (read.shape.channels * read.shape.frames))()
     check(call, CALL[frames](file, len(data), words, len(words)), given)
     return read, words
+
+
+def _first_bytes(path: str) -> bytes:
+    """What a file has, as far as a clip file goes, and a byte that shows it to be longer."""
+    try:
+        with open(path, "rb") as file:
+            return file.read(LONGEST + 1)
+    except OSError as wrong:
+        raise of_path(wrong, path) from None
 
 
 def load(source: Source) -> Clip:
@@ -273,9 +295,12 @@ def load_old(source: Source) -> Clip:
     return Clip._of(read.shape, words, 0)
 
 
-def _replace(path: Path, data: bytes) -> None:
-    """Writes a file. What stood at `path` stays until all of it is written; a link is followed, and a device or a pipe is written to as it is."""
+def _replace(named: str, data: bytes) -> None:
+    """Writes a file. What stood there stays until all of it is written; a link is followed, and a device or a pipe is written to as it is."""
+    path = Path(named)
     try:
+        if not named:
+            raise OSError(errno.ENOENT, os.strerror(errno.ENOENT))
         if path.exists() and not path.is_file():
             path.write_bytes(data)
             return
@@ -284,7 +309,7 @@ def _replace(path: Path, data: bytes) -> None:
             raise OSError(errno.ELOOP, os.strerror(errno.ELOOP))
         _put(target, data)
     except OSError as wrong:  # the caller's own path, and not that of the file that is written beside it
-        raise OSError(wrong.errno, wrong.strerror, str(path)) from None
+        raise of_path(wrong, named) from None
 
 
 def _put(target: Path, data: bytes) -> None:

@@ -2,13 +2,14 @@
 from __future__ import annotations
 
 import math
+import sys
 import threading
 from array import array
 from ctypes import c_float, c_uint32
 from typing import Any, List, NoReturn, Optional
 
+from .arguments import RATES, SPEEDS, flag, kind, number, takes
 from .arguments import cents as _cents
-from .arguments import flag, kind, no_more, number
 from .binding import CALL, FRAMES, NEVER, OUT, Options, PlayerRecord, check, check_floats
 from .clips import Clip
 from .errors import Refused, shown
@@ -17,7 +18,11 @@ from .tolerances import Tolerances, record_of
 __all__ = ["Block", "Player", "factor"]
 
 _Out, _NONE = c_uint32 * OUT, (c_uint32 * 0)()
-_NAMES = {"rate": "playback_rate", "speed": "playback_rate", "detune": "cents"}
+_BLOCK = {**SPEEDS, "detune": "cents", "when": "time"}
+_START = {**dict.fromkeys(("playback_rate", *SPEEDS), "playback_rate of block"), "time": "when", "loop": "the player's loop"}
+
+# Whether a message is one step because Python's interpreter is held through its call. In a Python without that lock, it takes the player's.
+IS_HELD = bool(getattr(sys, "_is_gil_enabled", lambda: True)())
 
 
 def factor(cents: int) -> float:
@@ -26,7 +31,7 @@ def factor(cents: int) -> float:
     given = _cents("factor", cents)
     check_floats()
     made = CALL["factor"](given)
-    check("factor", made.refusal, f"cents={shown(cents)}")
+    check("factor", made.refusal, "cents", cents)
     return float(made.factor)
 
 
@@ -40,7 +45,12 @@ class Block:
     `ended`: the player has ended, with this block or before it; all that follow are zeros, for good.
     `keep_alive`: this block played, or a start is still to come; False says that the player may be let go, or was never started."""
 
-    __slots__ = ("bits", "keep_alive", "ended", "position")
+    __slots__ = {
+        "bits": "The f32 bit patterns, an array('I') of 128 for each answered channel.",
+        "keep_alive": "Whether this block played, or a start is still to come.",
+        "ended": "Whether the player has ended, with this block or before it.",
+        "position": "Where the player stands after the block, in seconds of the clip.",
+    }
 
     def __init__(self, bits: "List[array[int]]", keep_alive: bool, ended: bool, position: float) -> None:
         self.bits, self.keep_alive, self.ended, self.position = bits, keep_alive, ended, position
@@ -63,46 +73,34 @@ class Player:
     """Plays a clip for an output of `sample_rate` frames a second, by the `tolerances` that it keeps, or the defaults. It is made with neither a
     clip nor a start, and the loop off; it plays one clip, once (docs/REFERENCE.md, 'Player and messages').
 
-    Any threads may share a player: each call of one, previews, copies and what is read included, holds its lock, so that a call waits until
-    another is done and none is lost; a message counts from the next block on. A call that comes while another of the same player is under way
-    in the same thread, as from a signal's handler, is a RuntimeError.
+    Any threads may share a player, and so may the handlers of signals: a message is one step, which waits for nothing and counts from the next
+    block on; a block, a preview, a copy and `set_clip` hold the player's lock, so that none is lost.
 
     A call that is refused changes nothing. Refused with 2: the sample rate."""
 
-    __slots__ = ("_record", "_clip", "_lock", "_is_busy", "__weakref__")
+    __slots__ = ("_record", "_clip", "_lock", "__weakref__")
     _record: PlayerRecord
-    _clip: Optional[Clip]
+    _clip: Optional[Clip]  # the one that was given, if the record has a buffer; else it says nothing
 
-    def __init__(self, sample_rate: float, *, tolerances: Optional[Tolerances] = None, **misnamed: NoReturn) -> None:
-        no_more("Player", misnamed, {"rate": "sample_rate", "samplerate": "sample_rate"})
+    @takes("Player", RATES)
+    def __init__(self, sample_rate: float, *, tolerances: Optional[Tolerances] = None) -> None:
         options = Options(record_of("Player", tolerances))
         rate = number("Player", "sample_rate", sample_rate)
         check_floats()
-        told = CALL["new_with"](rate, options)
-        check("Player", told.refusal, f"sample_rate={shown(sample_rate)}")
-        self._begin(told.player, None)
+        record = PlayerRecord()
+        check("Player", CALL["player_new_with"](record, rate, options), "sample_rate", sample_rate)
+        self._begin(record, None)
 
     def _begin(self, record: PlayerRecord, clip: Optional[Clip]) -> None:
-        self._record, self._clip, self._lock, self._is_busy = record, clip, threading.RLock(), False
+        self._record, self._clip, self._lock = record, clip, threading.RLock()
 
-    def _enter(self, call: str) -> None:
-        """Under the lock: nobody else is, but this thread may be, in a call that a signal interrupted."""
-        if self._is_busy:
-            raise RuntimeError(f"{call}: another call of this player is under way in this thread, which a signal's handler, or the like, has interrupted")
-        self._is_busy = True
-
-    def _tell(self, word: str, call: str, *values: Any) -> int:
+    def _tell(self, call: str, *values: Any) -> int:
         """Sends a message, and gives the number of its refusal."""
         check_floats()
+        if IS_HELD:
+            return int(CALL[call](self._record, *values))
         with self._lock:
-            self._enter(word)
-            try:
-                told = CALL[call](self._record, *values)
-                if not told.refusal:
-                    self._record = told.player
-            finally:
-                self._is_busy = False
-        return int(told.refusal)
+            return int(CALL[call](self._record, *values))
 
     # ---- messages
 
@@ -113,37 +111,33 @@ class Player:
         check_floats()
         shape, lent = clip._shape, clip._lent
         with self._lock:
-            self._enter("set_clip")
-            try:
-                refusal = CALL["player_set_buffer"](self._record, shape.channels, shape.frames, shape.rate, lent, len(lent))
-                if not refusal:
-                    self._clip = clip
-            finally:
-                self._is_busy = False
+            if not self._record.has_buffer:
+                self._clip = clip  # before the call that makes it count, so that an exception between the two leaves nothing half done
+            refusal = CALL["player_set_buffer"](self._record, shape.channels, shape.frames, shape.rate, lent, len(lent))
         check("set_clip", refusal)
 
+    @takes("start", _START)
     def start(self, when: float = 0.0, offset: float = 0.0, duration: Optional[float] = None) -> None:
         """Start at `when` seconds of the context, `offset` seconds into the clip, for `duration` seconds of it (None: all), once. A player that was
         told to start, and has no clip at its next block, ends with that block.
         Refused: 9 (one is negative or not finite), 10 (a second start)."""
         given = {"when": when, "offset": offset, "duration": NEVER if duration is None else duration}
         values = [number("start", name, value) for name, value in given.items()]
-        refusal = self._tell("start", "start", *values)
+        refusal = self._tell("player_start", *values)
         if refusal:
             bad = [name for name, value in zip(given, values) if not 0 <= value < math.inf]
             raise Refused("start", refusal, f"{bad[0]}={shown(given[bad[0]])}" if refusal == 9 and bad else None)
 
     def stop(self, when: float) -> None:
         """Stop at `when` seconds of the context; a later stop replaces it. Refused: 9 (negative or not finite), 11 (before a start)."""
-        refusal = self._tell("stop", "stop", number("stop", "when", when))
+        refusal = self._tell("player_stop", number("stop", "when", when))
         check("stop", refusal, f"when={shown(when)}" if refusal == 9 else None)
 
     @property
     def loop(self) -> bool:
         """Whether the clip is looped. To be set to True or False, and nothing else, before the first block or between any two: it counts from
         the next block on (docs/REFERENCE.md, 'The loop switch'). TypeError: no bool, Python's or NumPy's."""
-        with self._lock:
-            return bool(self._record.loop_state.is_looping)
+        return bool(self._record.loop_state.is_looping)
 
     @loop.setter
     def loop(self, on: bool) -> None:
@@ -151,14 +145,13 @@ class Player:
 
     def set_loop(self, on: bool) -> None:
         """`loop`, as a call."""
-        self._tell("loop", "loop", flag("loop", "loop", on))
+        self._tell("player_loop", flag("loop", "loop", on))
 
     @property
     def loop_start(self) -> float:
         """Where the loop starts, in seconds of the clip. Once there is a clip it is brought into 0 to the clip's duration.
         Refused with 9: a value that is not finite."""
-        with self._lock:
-            return float(self._record.loop_state.start)
+        return float(self._record.loop_state.start)
 
     @loop_start.setter
     def loop_start(self, at: float) -> None:
@@ -166,14 +159,13 @@ class Player:
 
     def set_loop_start(self, at: float) -> None:
         """`loop_start`, as a call."""
-        check("loop_start", self._tell("loop_start", "loop_start", number("loop_start", "at", at)), f"at={shown(at)}")
+        check("loop_start", self._tell("player_loop_start", number("loop_start", "at", at)), "at", at)
 
     @property
     def loop_end(self) -> float:
         """Where the loop ends, in seconds of the clip. Once there is a clip, 0 or less, or more than it has, becomes its duration.
         Refused with 9: a value that is not finite."""
-        with self._lock:
-            return float(self._record.loop_state.end)
+        return float(self._record.loop_state.end)
 
     @loop_end.setter
     def loop_end(self, at: float) -> None:
@@ -181,13 +173,11 @@ class Player:
 
     def set_loop_end(self, at: float) -> None:
         """`loop_end`, as a call."""
-        check("loop_end", self._tell("loop_end", "loop_end", number("loop_end", "at", at)), f"at={shown(at)}")
+        check("loop_end", self._tell("player_loop_end", number("loop_end", "at", at)), "at", at)
 
     # ---- blocks
 
-    def _render(self, word: str, call: str, time: Any, playback_rate: Any, factor: Any, cents: Any, misnamed: Any) -> Block:
-        if misnamed:
-            no_more(word, misnamed, _NAMES)
+    def _render(self, word: str, call: str, time: Any, playback_rate: Any, factor: Any, cents: Any) -> Block:
         at, rate = number(word, "time", time), number(word, "playback_rate", playback_rate)
         if cents is None:
             amount: float = 1.0 if factor is None else number(word, "factor", factor)
@@ -198,31 +188,30 @@ class Player:
         check_floats()
         out, lent, render = _Out(), _NONE, CALL[call]
         with self._lock:
-            self._enter(word)
-            try:
-                if self._clip is not None:
-                    lent = self._clip._lent
-                r = render(self._record, out, OUT, lent, len(lent), at, rate, amount)
-            finally:
-                self._is_busy = False
+            clip = self.clip
+            if clip is not None:
+                lent = clip._lent
+            r = render(self._record, out, OUT, lent, len(lent), at, rate, amount)
         if r.refusal:
             raise _refused_block(word, r.refusal, time, playback_rate, factor, cents, rate)
         data, size = memoryview(out).cast("B"), 4 * FRAMES
         return Block([array("I", bytes(data[size * c : size * (c + 1)])) for c in range(r.channels)], r.keep_alive, r.ended, r.position)
 
-    def block(self, time: float, playback_rate: float = 1.0, factor: Optional[float] = None, *, cents: Optional[int] = None, **misnamed: NoReturn) -> Block:
+    @takes("block", _BLOCK)
+    def block(self, time: float, playback_rate: float = 1.0, factor: Optional[float] = None, *, cents: Optional[int] = None) -> Block:
         """The block at `time` seconds of the context, played at `playback_rate`, 1 being the clip's own speed, times `factor` (1 if it is left
         out), or times the factor of whole `cents` in its place. Times must rise from block to block; block n of an output without gaps is at
         128 n / sample_rate. The playback rate is rounded to the nearest f32.
 
         Refused: 13 (the time), 16 (the cents), 14 (the playback rate is not finite, or the factor is NaN or outside 2^-64 to 2^64).
         TypeError: a factor and cents, or a name that the call does not have, such as `rate`."""
-        return self._render("block", "player_process", time, playback_rate, factor, cents, misnamed)
+        return self._render("block", "player_process", time, playback_rate, factor, cents)
 
-    def preview(self, time: float, playback_rate: float = 1.0, factor: Optional[float] = None, *, cents: Optional[int] = None, **misnamed: NoReturn) -> Block:
+    @takes("preview", _BLOCK)
+    def preview(self, time: float, playback_rate: float = 1.0, factor: Optional[float] = None, *, cents: Optional[int] = None) -> Block:
         """The block that `block` would give for the same values, without playing it: the player goes on as if nobody had looked
         (docs/REFERENCE.md, 'Preview'). Refused as `block` is."""
-        return self._render("preview", "player_preview", time, playback_rate, factor, cents, misnamed)
+        return self._render("preview", "player_preview", time, playback_rate, factor, cents)
 
     # ---- what can be read
 
@@ -239,7 +228,7 @@ class Player:
     @property
     def clip(self) -> Optional[Clip]:
         """The clip that it was given, or None."""
-        return self._clip
+        return self._clip if self._record.has_buffer else None
 
     @property
     def tolerances(self) -> Tolerances:
@@ -248,27 +237,23 @@ class Player:
 
     @property
     def position(self) -> float:
-        """The seconds of the clip that the next block plays from."""
-        with self._lock:
-            return float(self._record.render_state.buffer_time)
+        """Seconds of the clip: 0 until it plays, whatever the offset; then where the next block goes on."""
+        return float(self._record.render_state.buffer_time)
 
     @property
     def has_start(self) -> bool:
         """Whether it was told to start."""
-        with self._lock:
-            return bool(self._record.has_start)
+        return bool(self._record.has_start)
 
     @property
     def has_started(self) -> bool:
         """Whether a block has begun to play the clip."""
-        with self._lock:
-            return bool(self._record.render_state.started)
+        return bool(self._record.render_state.started)
 
     @property
     def ended(self) -> bool:
         """Whether it has ended, for good: the clip has run out, the duration is over, or the stop has come."""
-        with self._lock:
-            return bool(self._record.render_state.ended)
+        return bool(self._record.render_state.ended)
 
     @property
     def has_ended(self) -> bool:

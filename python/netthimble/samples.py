@@ -17,6 +17,7 @@ PCM = "Clip.from_pcm(sample_rate, data, bits) scales them to -1..1"
 BITS = "Clip.from_bits(sample_rate, channels) takes f32 bit patterns"
 FROM_FRAMES = "for one row a frame there is Clip.from_frames(sample_rate, frames)"
 FROM_ROWS = "for one row a channel there is Clip(sample_rate, channels)"
+SHIFTED = "these are likely samples shifted up, as soundfile's int32: bits=32; 16-bit values in 24 go in as bits=16"
 KINDS = {"f": {"f", "d"}, "b": {"B", "c"}, "i": set("bhilq"), "u": set("HILQ")}  # of memory's forms, as Python's struct names them
 WIDTHS = {8: "B", 16: "h", 24: "i", 32: "i"}  # the arrays that hold samples of so many bits
 
@@ -25,31 +26,36 @@ Rows = List[memoryview]  # of f32, a row for each channel; it need not lie in or
 
 class Data:
     """What a caller handed in, read once: its dimensions, the kind of its numbers (f float, i signed, u unsigned, b bytes, or another), and
-    itself, as an array of NumPy's or as memory that lies in order."""
+    itself, as an array of NumPy's or as memory of one dimension that lies in order."""
 
-    def __init__(self, given: Any) -> None:
+    def __init__(self, call: str, name: str, given: Any) -> None:
         self.array: Any = None
         self.memory: Optional[memoryview] = None
         self.shape: Tuple[int, ...] = ()
         self.kind = self.name = ""
         numpy = sys.modules.get("numpy")
         if numpy is not None and hasattr(given, "__array__") and getattr(given, "shape", None):
+            if "numpy.ma" in sys.modules and isinstance(given, numpy.ma.MaskedArray) and numpy.ma.is_masked(given):
+                raise TypeError(f"{call}: {name} has masked samples, which have no value: hand in what filled(0.0) gives, or another value")
             self.array = numpy.asarray(given)
             self.shape, self.name = self.array.shape, f"{type(given).__name__} of {self.array.dtype}"
             self.kind = "b" if self.array.dtype == numpy.uint8 else str(self.array.dtype.kind).replace("b", "?")
         elif not isinstance(given, (list, tuple)):
-            self._look(given)
+            self._look(call, name, given)
 
-    def _look(self, given: Any) -> None:
+    def _look(self, call: str, name: str, given: Any) -> None:
         try:
             view = memoryview(given)
         except TypeError:
             return
+        except (ValueError, BufferError) as wrong:  # memory that was released, or that Python has no form for
+            raise ValueError(f"{call}: {name} cannot be read: {wrong}") from None
         form = view.format.lstrip("@=<")
-        view = view if view.format == form and view.c_contiguous else _in_order(view, form)
-        self.memory, self.shape = view, view.shape or ()
         self.name = type(given).__name__ + (f" of {form!r}" if form not in KINDS["b"] else "")
         self.kind = next((kind for kind, forms in KINDS.items() if form in forms), form)
+        if self.kind not in KINDS:
+            raise TypeError(f"{call}: {name} must hold floats or whole numbers, in this machine's order of bytes, not {self.name}")
+        self.memory, self.shape = _in_order(view, form), view.shape or ()
 
     def __bool__(self) -> bool:
         return self.array is not None or self.memory is not None
@@ -63,7 +69,6 @@ class Data:
         """Of two dimensions: its rows."""
         if self.array is not None:
             return list(self.array)
-        assert self.memory is not None
         flat, length = self.flat(), self.shape[1]
         return [flat[length * n : length * (n + 1)] for n in range(self.shape[0])]
 
@@ -78,15 +83,16 @@ class Data:
         """All numbers in order."""
         if self.array is not None:
             return self.array.reshape(-1)
-        assert self.memory is not None
-        return self.memory if self.memory.ndim == 1 else self.memory.cast("B").cast(self.memory.format)
+        return self.memory
 
 
 def _in_order(view: memoryview, form: str) -> memoryview:
-    """A copy that lies in order, of the machine's own form."""
-    if view.ndim == 1:
-        return memoryview(view.tobytes()).cast(form)
-    return memoryview(view.tobytes()).cast(form, list(view.shape or ()))
+    """The numbers in one dimension and in order, of the machine's own form; a copy where they lie otherwise."""
+    if view.ndim == 1 and view.format == form and view.c_contiguous:
+        return view
+    if not view.nbytes:  # of a form that memory of no bytes can be cast from
+        return memoryview(array("B" if form == "c" else form))
+    return memoryview(view.tobytes()).cast(form)
 
 
 def listed(call: str, name: str, given: Any) -> Sequence[Any]:
@@ -106,7 +112,7 @@ def listed(call: str, name: str, given: Any) -> Sequence[Any]:
 
 def float_row(call: str, name: str, given: Any) -> memoryview:
     """A row of floats, narrowed to f32."""
-    data = Data(given)
+    data = Data(call, name, given)
     values: Any = given
     if data:
         if len(data.shape) != 1:
@@ -114,11 +120,11 @@ def float_row(call: str, name: str, given: Any) -> memoryview:
         if data.kind != "f":
             raise _not_floats(call, name, data)
         values = data.flat()
-        if data.array is not None:
-            words = _narrowed(data.array)
+        numpy = sys.modules["numpy"] if data.array is not None else wav.numpy_for(values.nbytes)
+        if data.array is None and values.format == "f":
+            words = values.tobytes()
         else:
-            assert data.memory is not None
-            words = data.memory.tobytes() if data.memory.format == "f" else array("f", data.memory).tobytes()
+            words = array("f", values).tobytes() if numpy is None else _narrowed(numpy, values)
     else:
         values = listed(call, name, given)
         for kind in set(map(type, values)):
@@ -133,8 +139,7 @@ def float_row(call: str, name: str, given: Any) -> memoryview:
     return memoryview(words)
 
 
-def _narrowed(given: Any) -> bytes:
-    numpy = sys.modules["numpy"]
+def _narrowed(numpy: Any, given: Any) -> bytes:
     with numpy.errstate(over="ignore", under="ignore", invalid="ignore"):
         made = numpy.ascontiguousarray(given, dtype="<f4").tobytes()
     return bytes(made)
@@ -173,14 +178,14 @@ def _check_finite(call: str, name: str, words: bytes, values: Any) -> None:
 
 def bit_row(call: str, name: str, given: Any) -> memoryview:
     """A row of f32 bit patterns: whole numbers of 32 bits without a sign."""
-    data = Data(given)
+    data = Data(call, name, given)
     if data:
         if len(data.shape) != 1 or data.kind != "u" or data.width != 4:
             raise TypeError(f"{call}: {name} must be a row of unsigned 32-bit whole numbers, as array('I') or uint32, not {data.name}")
         return memoryview(data.array.astype("<u4").tobytes() if data.array is not None else data.flat().tobytes())
     values = listed(call, name, given)
     for at, value in enumerate(values):
-        if not isinstance(value, numbers.Integral):
+        if not isinstance(value, numbers.Integral) or isinstance(value, bool):
             raise TypeError(f"{call}: {name}[{at}] must be an f32 bit pattern, a whole number, not {type(value).__name__} {shown(value)}")
         if not 0 <= int(value) < 2**32:
             raise ValueError(f"{call}: {name}[{at}] is {shown(value)}: an f32 bit pattern is 0 to 2^32 - 1")
@@ -192,7 +197,7 @@ def bit_row(call: str, name: str, given: Any) -> memoryview:
 
 def channel_rows(call: str, name: str, given: Any, row: Any = float_row) -> Rows:
     """A row of words for each channel, of one row a channel."""
-    data = Data(given)
+    data = Data(call, name, given)
     if data and len(data.shape) == 2:
         channels = data.shape[0]
         if channels > CHANNELS:
@@ -214,7 +219,7 @@ def channel_rows(call: str, name: str, given: Any, row: Any = float_row) -> Rows
 
 def frame_rows(call: str, name: str, given: Any) -> Rows:
     """A row of words for each channel, of one row a frame, or of one number a frame where there is one channel."""
-    data = Data(given)
+    data = Data(call, name, given)
     if data:
         if len(data.shape) == 1:
             return [float_row(call, name, given)]
@@ -241,7 +246,7 @@ def frame_rows(call: str, name: str, given: Any) -> Rows:
 
 def pcm_rows(call: str, given: Any, bits: int, channels: Optional[int]) -> Rows:
     """A row for each channel, of whole numbers of so many bits: packed bytes, or numbers, interleaved; or one row a frame."""
-    data = Data(given)
+    data = Data(call, "data", given)
     if data and len(data.shape) == 2:
         if channels is not None and channels != data.shape[1]:
             raise ValueError(f"{call}: data of {data.shape[0]} frames of {data.shape[1]} channels is not one of {channels} channels")
@@ -273,7 +278,7 @@ def _pcm_floats(call: str, data: Data, given: Any, bits: int) -> memoryview:
     if data.kind != "i" or data.width != wanted.itemsize or bits == 8:
         raise TypeError(f"{call}: data of {bits} bits is packed bytes, or {_wanted(bits)}, not {data.name}")
     wanted.frombytes(flat if data.array is None else data.array.astype(f"<i{data.width}").tobytes())
-    if bits == 24 and len(wanted):
+    if bits == 24:
         _in_range(call, wanted, bits)
     return wav.scaled(wanted, bits)
 
@@ -285,11 +290,31 @@ def _wanted(bits: int) -> str:
 def _in_range(call: str, values: Any, bits: int) -> Any:
     """The whole numbers, all of which are ones of so many bits."""
     low, high = (0, 255) if bits == 8 else (-(2 ** (bits - 1)), 2 ** (bits - 1) - 1)
+    hint = f"; {SHIFTED}" if bits == 24 else ""
     if not isinstance(values, array):
         for at, value in enumerate(values):
             if not isinstance(value, numbers.Integral) or isinstance(value, bool):
                 raise TypeError(f"{call}: data[{at}] must be a whole number, not {type(value).__name__} {shown(value)}")
         values = [int(value) for value in values]
-    if len(values) and not (low <= min(values) and max(values) <= high):
-        raise ValueError(f"{call}: data has {min(values)} to {max(values)}; samples of {bits} bits are {low} to {high}")
+    if not len(values):
+        return values
+    least, most = _ends(values)
+    if least < low or most > high:
+        raise ValueError(f"{call}: data has {shown(least)} to {shown(most)}; samples of {bits} bits are {low} to {high}{hint}")
+    if bits == 24 and (least or most) and _low_bytes_are_zero(array("i", values)):
+        raise ValueError(f"{call}: data has {least} to {most}, all of them multiples of 256{hint}")
     return values
+
+
+def _ends(values: Any) -> Tuple[int, int]:
+    """The least and the greatest of whole numbers."""
+    numpy = wav.numpy_for(values.itemsize * len(values)) if isinstance(values, array) else None
+    if numpy is None:
+        return min(values), max(values)
+    read = numpy.frombuffer(values, f"i{values.itemsize}")
+    return int(read.min()), int(read.max())
+
+
+def _low_bytes_are_zero(values: "array[int]") -> bool:
+    low = values.tobytes()[:: values.itemsize]
+    return low.count(0) == len(low)

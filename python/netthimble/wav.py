@@ -84,6 +84,8 @@ def rows_of(path: "Path", first: int = 0, count: Optional[int] = None) -> Tuple[
             samples = packed(_values(file, channels * width, first, count), width)
         except ValueError as wrong:
             raise ValueError(f"{os.fspath(path)}: {wrong}") from None
+        except OSError as wrong:  # of reading, which does not name the file
+            raise OSError(wrong.errno, wrong.strerror, os.fspath(path)) from None
     return rate, [samples[c::channels] for c in range(channels)]
 
 
@@ -113,7 +115,7 @@ def _format(data: bytes) -> Tuple[int, int, int]:
     """Channels, frames a second and bytes of a sample."""
     if len(data) < 16:
         raise ValueError("not a WAV file: its format is cut short")
-    kind, channels, rate, _, _, bits = struct.unpack_from("<HHIIHH", data)
+    kind, channels, rate, _, align, bits = struct.unpack_from("<HHIIHH", data)
     if kind == EXTENSIBLE and len(data) >= 26:
         kind = struct.unpack_from("<H", data, 24)[0]
     if kind != PLAIN:
@@ -122,6 +124,8 @@ def _format(data: bytes) -> Tuple[int, int, int]:
         raise ValueError(f"samples of {bits} bits; 16, 24 and 32 are read")
     if channels == 0:
         raise ValueError("not a WAV file: it has no channels")
+    if align != channels * (bits // 8):
+        raise ValueError(f"frames of {align} bytes, where {channels} channels of {bits} bits take {channels * (bits // 8)}")
     return channels, rate, bits // 8
 
 
@@ -136,6 +140,8 @@ def _values(file: IO[bytes], size_of_frame: int, first: int, count: Optional[int
     frames, there = size // size_of_frame, os.fstat(file.fileno()).st_size - file.tell()
     if there < size:
         raise ValueError(f"cut short: of {frames} frames it has {max(there, 0) // size_of_frame}")
+    if size % size_of_frame:
+        raise ValueError(f"{size} bytes of samples are not whole frames of {size_of_frame} bytes")
     if not 0 <= first <= frames or count is not None and count < 0:
         raise ValueError(f"it has {frames} frames; from {first} on, {'all' if count is None else count} of them cannot be read")
     file.seek(first * size_of_frame, os.SEEK_CUR)
