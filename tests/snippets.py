@@ -104,7 +104,7 @@ def main():
         ran = page(path)
         print(f"snippets: {path}: " + (", ".join(f"{count} of {kind}" for kind, count in sorted(ran.items())) or "none"))
         if path == "docs/LIBRARY.md":
-            check(f"{path} has Python and C", ran.get("python", 0) > 0 and ran.get("c", 0) > 0, ran)
+            check(f"{path} has Python, C and commands", all(ran.get(kind, 0) > 0 for kind in ("python", "c", "sh")), ran)
     return check.ended()
 
 
