@@ -1307,15 +1307,18 @@ RAISING = """
 import signal, sys, threading, time
 import netthimble
 clip = netthimble.Clip(48000, [[(n + 1) / 1024 for n in range(300)]])
-p = netthimble.Player(48000)
+p, q = netthimble.Player(48000), netthimble.Player(48000)
 p.start()
+q.set_clip(clip)
+q.start()
+q.loop = True
 class Stop(Exception): pass
 def handler(*_):
     global is_armed
     if is_armed:
         is_armed = False
         raise Stop
-is_armed, raised, begun = False, 0, time.monotonic()
+is_armed, raised, blocks, begun = False, 0, 0, time.monotonic()
 signal.signal(signal.SIGALRM, handler)
 while time.monotonic() - begun < float(sys.argv[1]):
     try:
@@ -1323,10 +1326,13 @@ while time.monotonic() - begun < float(sys.argv[1]):
         signal.setitimer(signal.ITIMER_REAL, 0.00002 + 0.0000007 * (raised % 60), 0.002)
         while True:
             p.loop = True; p.loop_start = 0.0; p.loop = False; p.loop_end = 0.0; p.stop(1e9); p.position
+            blocks += 1
+            q.block(blocks / 375); q.preview(1e6); q.copy(); q.stop(1e9)
     except Stop: raised += 1
 signal.setitimer(signal.ITIMER_REAL, 0)
 told = []
 def other():
+    assert q.copy().block(1e6).channels == q.block(1e6).channels == 1
     p.set_clip(clip); p.loop = True; told.append((p.position, p.clip is clip, p.block(0.0).samples[0][299 % 128], p.loop, p.copy().loop))
 thread = threading.Thread(target=other, daemon=True)
 thread.start()
@@ -1400,6 +1406,20 @@ def halves():
     p = cut(True)
     refuses("a clip after the call", 10, p.set_clip, other)
     check("after the call", p.clip is clip and p.block(0.0).samples[0][0] == 0.5)
+    for name, play in (("player_process", netthimble.Player.block), ("player_preview", netthimble.Player.preview)):
+        p, render = netthimble.Player(48000), call[name]
+        p.start()
+
+        def late(*given):
+            if p.clip is None:
+                p.set_clip(clip)
+            return render(*given)
+
+        call[name] = late
+        try:
+            check(f"a clip that comes in before {name}", play(p, 0.0).samples[0][0] == 0.5 and p.clip is clip)
+        finally:
+            call[name] = render
     p = netthimble.Player(48000)
     refuses("an empty clip", 12, p.set_clip, netthimble.Clip(48000, [[]]))
     check("an empty clip is none", p.clip is None and p.copy().clip is None and p.block(0.0).channels == 1)

@@ -21,7 +21,7 @@ _Out, _NONE = c_uint32 * OUT, (c_uint32 * 0)()
 _BLOCK = {**SPEEDS, "detune": "cents", "when": "time"}
 _START = {**dict.fromkeys(("playback_rate", *SPEEDS), "playback_rate of block"), "time": "when", "loop": "the player's loop"}
 
-# Whether a message is one step because Python's interpreter is held through its call. In a Python without that lock, it takes the player's.
+# Whether a call of the library is one step, because Python's interpreter is held through it. In a Python without that lock, it takes the player's.
 IS_HELD = bool(getattr(sys, "_is_gil_enabled", lambda: True)())
 
 
@@ -73,8 +73,8 @@ class Player:
     """Plays a clip for an output of `sample_rate` frames a second, by the `tolerances` that it keeps, or the defaults. It is made with neither a
     clip nor a start, and the loop off; it plays one clip, once (docs/REFERENCE.md, 'Player and messages').
 
-    Any threads may share a player, and so may the handlers of signals: a message is one step, which waits for nothing and counts from the next
-    block on; a block, a preview, a copy and `set_clip` hold the player's lock, so that none is lost.
+    Any threads may share a player, and so may the handlers of signals: a message, a block, a preview and a copy are one step each, which waits for
+    nothing, and none is lost; a message counts from the next block on. `set_clip` alone takes a lock.
 
     A call that is refused changes nothing. Refused with 2: the sample rate."""
 
@@ -177,6 +177,15 @@ class Player:
 
     # ---- blocks
 
+    def _play(self, render: Any, out: Any, at: float, rate: float, amount: float) -> Any:
+        """The library's answer. A clip that comes in after it was looked for has the call refused with 1, and made again."""
+        while True:
+            clip = self.clip
+            lent = _NONE if clip is None else clip._lent
+            answer = render(self._record, out, OUT, lent, len(lent), at, rate, amount)
+            if answer.refusal != 1 or self.clip is clip:
+                return answer
+
     def _render(self, word: str, call: str, time: Any, playback_rate: Any, factor: Any, cents: Any) -> Block:
         at, rate = number(word, "time", time), number(word, "playback_rate", playback_rate)
         if cents is None:
@@ -186,12 +195,12 @@ class Player:
         else:
             raise TypeError(f"{word} takes a factor or cents, not both")
         check_floats()
-        out, lent, render = _Out(), _NONE, CALL[call]
-        with self._lock:
-            clip = self.clip
-            if clip is not None:
-                lent = clip._lent
-            r = render(self._record, out, OUT, lent, len(lent), at, rate, amount)
+        out = _Out()
+        if IS_HELD:
+            r = self._play(CALL[call], out, at, rate, amount)
+        else:
+            with self._lock:
+                r = self._play(CALL[call], out, at, rate, amount)
         if r.refusal:
             raise _refused_block(word, r.refusal, time, playback_rate, factor, cents, rate)
         data, size = memoryview(out).cast("B"), 4 * FRAMES
@@ -265,8 +274,11 @@ class Player:
     def copy(self) -> "Player":
         """A player that stands where this one does, with the same clip, and a life of its own."""
         player = type(self).__new__(type(self))
-        with self._lock:
-            player._begin(PlayerRecord.from_buffer_copy(self._record), self._clip)
+        if IS_HELD:
+            player._begin(PlayerRecord.from_buffer_copy(self._record), self._clip)  # in this order: of a record with a buffer, the clip stays
+        else:
+            with self._lock:
+                player._begin(PlayerRecord.from_buffer_copy(self._record), self._clip)
         return player
 
     __copy__ = copy
