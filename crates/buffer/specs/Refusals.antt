@@ -39,6 +39,12 @@ number refused.Cents = 16
 number refused.Onset = 17
 -- tolerances, where they are made: one not finite, or outside 0 to 1
 number refused.Tolerance = 18
+-- ramp, where a player is made: over 48,000 frames
+number refused.Ramp = 19
+-- a clip file to be mended: not one frame for each channel remains
+number refused.NothingLeft = 21
+-- staircase: step 0 or over 20, start or threshold over 120, trials not 1 to 1,000
+number refused.Staircase = 22
 
 -- what is printed of a refusal: its number's decimal digits
 abbrev pub text : Refusal → List ℕ

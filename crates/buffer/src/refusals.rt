@@ -38,6 +38,12 @@ pub enum Refusal {
     Onset = 17,
     /// A tolerance that isn't finite, or is outside 0 to 1.
     Tolerance = 18,
+    /// A ramp of more than 48,000 frames.
+    Ramp = 19,
+    /// A clip file to be mended of which not one frame for each channel remains.
+    NothingLeft = 21,
+    /// A staircase's step of 0 or over 20, start or threshold over 120, or trials that aren't 1 to 1,000.
+    Staircase = 22,
 }
 
 impl Refusal {

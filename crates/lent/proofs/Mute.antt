@@ -107,6 +107,9 @@ some refused.Layout = omega arith
 some refused.Cents = omega arith
 some refused.Onset = omega arith
 some refused.Tolerance = omega arith
+some refused.Ramp = omega arith
+some refused.NothingLeft = omega arith
+some refused.Staircase = omega arith
 
 refuses : (p : Player) (passed : Result Unit Refusal) (r : BlockReport) → (passed ≡ Ok tt → ⊥) → Refuses p (after_checks passed r)
 refuses p (Ok tt) r never = absurd (never refl)
