@@ -26,7 +26,7 @@ use Rattle.player.specs.declared.Player.{Player}
 use Rattle.obeying.specs.Obeying.{session_of}
 use Rattle.session.specs.Transcript.{transcript, no_words}
 use Rattle.loading.specs.Loading.{count_of, with_count, sent, sent_clip, samples_of, loaded}
-use Rattle.loading.specs.Playing.{clip_room, file_room, told}
+use Rattle.loading.specs.Playing.{clip_room, file_room, told, OfTheRead}
 use Rattle.loading.proofs.Frames.{over_front}
 
 -- ---- a refusal's text
@@ -128,3 +128,8 @@ told_whole None v i bytes n P long within read end p = tt
 told_whole (Some xs) v i bytes n P long within read end p =
     some_map i (λ lines. P (told (take n bytes) lines)) (λ lines. P (told xs lines))
     (λ lines t. subst P (file_told (Some xs) v bytes lines n long within read end) t) p
+
+-- what holds of the bytes that were read holds of some that were
+pub of_the_read : (u v i : Option (List ℕ)) (clip : List ℕ) (P : List ℕ → List ℕ → Type 0) → Consumes u v clip → IfSome i (P clip)
+    → IfSome i (λ lines. OfTheRead u v (λ file. P file lines))
+of_the_read u v i clip P read = some_map i (P clip) _ (λ lines p. record { clip = clip; read = read; holds = p })

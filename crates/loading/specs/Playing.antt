@@ -1,7 +1,8 @@
 -- What the program `trial` prints of a clip file's bytes and the lines' bytes (docs/REFERENCE.md, 'trial'): of a clip that is refused `X`
 -- and its number, else the transcript of the lines, from a fresh player that was sent the clip, block number 0 and an empty block output.
 -- Definitions only.
-use Rattle.std.specs.Prelude.{ℕ, List, Result, Ok, Err}
+use Rattle.std.specs.Prelude.{ℕ, List, Option, Result, Ok, Err}
+use Rattle.std.specs.Io.KnownBytes.{Consumes}
 use Rattle.buffer.specs.Refusals.{number}
 use Rattle.buffer.specs.declared.refusals.Refusal.{Refusal}
 use Rattle.clip.specs.Reading.{read_with_onset, header_read}
@@ -25,3 +26,9 @@ told_of (Err refusal) samples lines = refusal_text (number refusal)
 
 abbrev pub told : List ℕ → List ℕ → List ℕ
 told file lines = told_of (loaded file clip_room) (samples_of (header_read (read_with_onset file)) file) lines
+
+-- what holds of the bytes that were read of a file, where they are known: of all, or of those before the read that failed
+pub record OfTheRead (file left : Option (List ℕ)) (P : List ℕ → Type 0) : Type 0 where
+  pub clip : List ℕ
+  pub read : Consumes file left clip
+  pub holds : P clip

@@ -1,15 +1,16 @@
 //! The whole of `trial`: the clip of a file, played as the lines of a reader say.
-ghost use Rattle.std.specs.Prelude.{◌≡◌, ◌≤◌, ◌<◌, length, take, IfSome, IfErr, OnOk, OnErr};
+ghost use Rattle.std.specs.Prelude.{◌≡◌, ◌++◌, ◌≤◌, ◌<◌, length, take, IfSome, IfErr, OnOk, OnErr};
 ghost use Rattle.std.specs.Io.KnownBytes.{Appends, Consumes, IsAtEnd};
 ghost use Rattle.text.specs.Lines.{refusal_text};
 ghost use Rattle.buffer.specs.Refusals.{number};
 ghost use Rattle.session.specs.Running.{AppendsFront};
 ghost use Rattle.loading.specs.Loading.{loaded};
-ghost use Rattle.loading.specs.Playing.{clip_room, told};
+ghost use Rattle.loading.specs.Playing.{clip_room, told, OfTheRead};
 
 use super::load;
 use buffer::Refusal;
 use obeying::Session;
+use std::alloc::Allocator;
 use std::io;
 use std::io::{Read, Write};
 
@@ -73,10 +74,24 @@ pub fn play<R: Read, W: Write>(file: &[u8], input: &mut R, output: &mut W) -> io
     }
 }
 
+/// Plays as `play` does, of bytes in memory, which are known: on success the output has grown by just
+/// what the clip and the lines tell.
+pub fn play_in_memory<A: Allocator>(
+    file: &[u8],
+    lines: &[u8],
+    output: &mut Vec<u8, A>,
+) -> io::Result<()>
+    ensures { OnOk result (output.new.items ≡ output.old.items ++ told file.now lines.now) }
+{
+    let mut input = lines;
+    play(file, &mut input, output)
+}
+
 /// Plays the clip of a file as `play` does. The first answer is the error where a read of the file
 /// failed: what came before it is played then. The second is `play`'s. Of a file, an input and an
 /// output whose bytes are known, where no read of the file failed: the output has grown by what all
 /// of the file's bytes and the lines tell, and on an error of reading lines or writing by a front of it.
+/// The same of the bytes before it where a read failed.
 pub fn play_file<F: Read, R: Read, W: Write>(
     file: &mut F,
     input: &mut R,
@@ -88,6 +103,12 @@ pub fn play_file<F: Read, R: Read, W: Write>(
     ensures front { OnOk result.0 (OnErr result.1 (IfSome (F.remaining file.old) (λ clip.
         IfSome (R.remaining input.old) (λ lines.
         AppendsFront (W.contents output.old) (W.contents output.new) (told clip lines))))) }
+    ensures read { OnOk result.1 (IfSome (R.remaining input.old) (λ lines.
+        OfTheRead (F.remaining file.old) (F.remaining file.new) (λ clip.
+        Appends (W.contents output.old) (W.contents output.new) (told clip lines)))) }
+    ensures read_front { OnErr result.1 (IfSome (R.remaining input.old) (λ lines.
+        OfTheRead (F.remaining file.old) (F.remaining file.new) (λ clip.
+        AppendsFront (W.contents output.old) (W.contents output.new) (told clip lines)))) }
 {
     let mut bytes = [0u8; FILE];
     let (n, read) = read_front(file, &mut bytes);
