@@ -23,10 +23,12 @@ RECORDS, PASSED_OVER = "docs/changes/", {"NOTICE", "tests/stands_alone.py"}
 UNIT = r"(?! ?(?:%|×|to \d|and \d|or \d|times|[nmµ]?s\b|seconds?|minutes?|hours?|frames?|samples?|blocks?|cents|million|[kMG]B))"
 PAPERS = [
     ("a paper by its number", "document", r"\bdocuments? 0?\d\b"),
+    ("a paper by its number", "doc", r"\bdocs?\.?(?: )?0\d\b"),
     ("a paper by its number", "-", r"\b0\d-(?:scope|change-requests)\b"),
-    ("a demand by its number", "demand", r"\bdemands? \d"),
-    ("an issue by its number", "issue", r"\bissues? #?\d"),
+    ("a demand by its number", "demand", r"\bdemands? (?:no\.(?: )?|number )?\d"),
+    ("an issue by its number", "issue", r"\bissues? (?:no\.(?: )?|number )?#?\d"),
     ("a paper", "paper", r"\b(?:the|this|that|our|these|those|scope) papers?\b"),
+    ("a customer", "customer", r"\bcustomers?\b"),
     ("the mission", "mission", r"\bmissions?\b"),
     ("a request", "request", r"\b(?:the|this|that|these|those|a|each|every|change) requests?\b"),
 ]
@@ -34,6 +36,7 @@ NUMBERED = "a paragraph by its number"
 PARAGRAPHS = [
     r"\b(?:words|tapes?|statements?|lists|readings?|rules?|tables?|terms|paragraphs?|sections?|\d and) of 2\.[1-9]\b(?!\.?\d)" + UNIT,
     r"\b(?:since|before|after|for|under|see|and of) 2\.[1-9]\b(?!\.?\d)" + UNIT,
+    r"(?:\b(?:per|cf\.|sections?|paragraphs?|requests?)|§)(?: )?2\.[1-9]\b(?!\.?\d)" + UNIT,
     r"\b2\.[1-9](?:'s\b| (?:says|leaves|retired|gives|wants|asks|allows|needs|reads|names|holds that)\b)",
     r"(?<![\w)\]])\(2\.[1-9](?:, 2\.[1-9])*(?:\)|[,;:] [A-Za-z'])",
     r"(?m)^[^\w\n]*2\.[1-9][,:] [A-Za-z']",
@@ -145,10 +148,14 @@ documents 01 and 02
 those of document
 // 02, somewhere
 02-change-requests.md
+(doc 02)
 Demand 3 holds
+demand no. 3
 demands 1 to 3
 issue 37
 issues #4 and #5
+issue no. 37
+the customer's words
 the paper says
 this paper's number
 of the scope paper
@@ -162,6 +169,9 @@ the reading of
 since 2.4 they
 as before 2.3: no
 those for 2.7 |
+see section 2.4
+as in §2.4
+per 2.4, as
 2.6 says when
 2.6's tape
 in cents (2.1) too
@@ -183,6 +193,7 @@ round(2.5) = 3, f(2.5)
 [1.5, 2.5, 3.5]
     2.5, 1.0,
 before 2.5 ms
+per 2.5 ms, sections 2 and 3
 the frame rule, version 1.2
 Python 3.9, kit 12.5
 (2.5, 1.0)
