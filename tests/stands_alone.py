@@ -1,9 +1,10 @@
 #!/usr/bin/env python3
 """The repository stands alone: no file that git tracks, nor its name, cites a paper that a reader doesn't have, a path of some machine or a package
-registry; each section that is cited is one of docs/REFERENCE.md; and each file that is named or linked is there. Each finding is a line
-'file:line: what'.
+registry; each section that is cited is one of docs/REFERENCE.md, or of the other page that is named; and each file that is named or linked is there.
+Each finding is a line 'file:line: what'.
 
-A section is cited so: docs/REFERENCE.md, 'Name', or 'Name' and 'Other name', all on one line. The patterns are tried on made-up lines first.
+A section is cited so: docs/REFERENCE.md, 'Name', or 'Name' and 'Other name', all on one line; of another page, which may be named without its
+folder, as oracle/README.md, 'Name'. The patterns are tried on made-up lines first.
 Passed over are records of work (docs/changes; their names count), NOTICE, and this file.
 """
 import bisect
@@ -53,6 +54,7 @@ PATTERNS = [
 ]
 LEADER = re.compile(r"\n[ \t]*(?://[/!]?|--|#|\*(?!/)|;|\|)?")
 CITED = re.compile(r"\bREFERENCE\.md,( *)(?=(.?))")
+ELSEWHERE = re.compile(r"(?<![\w/.-])((?:[\w-]+/)*(?!REFERENCE)[A-Z]+\.md), (?=')")
 NAMED = re.compile(r"(?<![\w/.~$}{-])(?:tests|tools|oracle|docs|include|examples)/(?!NAME)[\w/.-]*\w")
 LINKED = re.compile(r"\]\(([^)\s#:]+)(?:#[^)]*)?\)")
 NEXT = re.compile(r",? and (?=')|, (?=')")
@@ -89,6 +91,17 @@ def sections(text, headings):
                 yield found.start(), None, "a section's name that ends in another line"
             else:
                 yield found.start(), name, None if name in headings else f"docs/REFERENCE.md has no section '{name}'"
+
+
+def sections_elsewhere(file, text):
+    """The citations of sections that other pages than docs/REFERENCE.md don't have."""
+    for found in ELSEWHERE.finditer(text):
+        places = (TOP / file).parent / found[1], TOP / found[1], TOP / "docs" / found[1]
+        page = next((place for place in places if place.is_file()), None)
+        known = headings(page.read_text(encoding="utf-8")) if page else []
+        for name in names_in(text[found.end() :].partition("\n")[0], known):
+            if name not in known:
+                yield found.start(), f"{found[1]} has no section '{name}'" if name else "a section's name that ends in another line"
 
 
 def absent(file, text):
@@ -223,6 +236,11 @@ FILES = [
     ("tests/stands_alon tools/prove.", ["there is no tests/stands_alon"]),
     ("see [one](README.md)", ["a link to README.md, which is not there"]),
 ]
+ELSEWHERES = [
+    ("as oracle/README.md, 'Our side', and docs/DECISIONS.md, 'Python', 'The player' say; PROTOCOL.md, 'Runs'", []),
+    ("(README.md, 'Our side'), RULE.md, 'Where it holds'", []),
+    ("docs/DECISIONS.md, 'Python 2' and DIFFERENCES.md, 'B99'", ["docs/DECISIONS.md has no section 'Python 2'", "DIFFERENCES.md has no section 'B99'"]),
+]
 NAMES = [
     ("docs/changes/2.6-switch.md", True), ("docs/changes/0-rooms.md", True), ("docs/changes/cents.md", False), ("specs/2.6-tape.antt", True),
     ("docs/02-change-requests.md", True), ("src/main.rt", False), ("kit-13f.txt", False), ("tests/document_01.py", True),
@@ -240,6 +258,9 @@ def self_test():
         wrong += [] if found == expected else [f"{text!r}: {found}"]
     for text, expected in FILES:
         found = [what for _, what in absent("docs/made-up.md", text)]
+        wrong += [] if found == expected else [f"{text!r}: {found}"]
+    for text, expected in ELSEWHERES:
+        found = [what for _, what in sections_elsewhere("oracle/made-up.md", text)]
         wrong += [] if found == expected else [f"{text!r}: {found}"]
     return wrong + [f"the name {name}: {in_name(name)}" for name, is_wrong in NAMES if bool(in_name(name)) != is_wrong]
 
@@ -259,7 +280,7 @@ def main():
             continue
         text = text_of(file)
         starts = [0, *(found.end() for found in re.finditer("\n", text))]
-        told = [*in_text(text), *absent(file, text)]
+        told = [*in_text(text), *absent(file, text), *sections_elsewhere(file, text)]
         for at, name, wrong in sections(text, known):
             cited += name is not None
             told += [(at, wrong)] if wrong and (known or name is None) else []
