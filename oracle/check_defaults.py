@@ -10,7 +10,7 @@ sys.path.insert(0, str(Path(__file__).resolve().parent.parent / "tools"))
 from scripts import Generator
 from tolerances import DEFAULTS, takes_own, words_of
 
-from shared import ORACLE, options
+from shared import ORACLE, command_of, options
 
 BATCH = 2000
 
@@ -45,4 +45,4 @@ if __name__ == "__main__":
     words.add_argument("--seed", type=int, default=1)
     words.add_argument("--scripts", type=int, default=20000)
     given = words.parse_args()
-    sys.exit(main(shlex.split(given.command), given.seed, given.scripts))
+    sys.exit(main(command_of(given.command), given.seed, given.scripts))

@@ -8,7 +8,7 @@ import sys
 from pathlib import Path
 
 sys.path.insert(0, str(Path(__file__).resolve().parent.parent / "tools"))
-from shared import ORACLE, TOP, options, run
+from shared import ORACLE, TOP, command_of, options, run
 
 
 def differs(command, script):
@@ -34,4 +34,4 @@ def main(command):
 if __name__ == "__main__":
     words = options(__doc__)
     words.add_argument("command", metavar="CMD", nargs="?", default=shlex.quote(str(ORACLE)), help="target/oracle/replay where it is left out")
-    sys.exit(main(shlex.split(words.parse_args().command)))
+    sys.exit(main(command_of(words.parse_args().command)))

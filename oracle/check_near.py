@@ -14,7 +14,7 @@ from fractions import Fraction
 from pathlib import Path
 
 sys.path.insert(0, str(Path(__file__).resolve().parent.parent / "tools"))
-from shared import ORACLE, options, run
+from shared import ORACLE, command_of, options, run
 from shared.bits import single, x32, x64
 
 MAX = "7FEFFFFFFFFFFFFF"
@@ -153,4 +153,4 @@ if __name__ == "__main__":
     words.add_argument("--seed", type=int, default=1)
     words.add_argument("--cases", type=int, default=4000, help="of each kind")
     given = words.parse_args()
-    sys.exit(main(shlex.split(given.command), given.seed, given.cases))
+    sys.exit(main(command_of(given.command), given.seed, given.cases))

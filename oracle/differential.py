@@ -19,7 +19,7 @@ sys.path.insert(0, str(Path(__file__).resolve().parent.parent / "tools"))
 from scripts import MAX, Generator, converted_frames, words_text
 from tolerances import DEFAULTS, has_own, words_of
 
-from shared import ORACLE, options
+from shared import ORACLE, command_of, options
 from shared.bits import x32, x64
 
 MARK = "# @"
@@ -29,7 +29,7 @@ class Side:
     """One program; `begin` starts it on an input, `answer` waits for what it printed."""
 
     def __init__(self, command):
-        self.command = shlex.split(command)
+        self.command = command_of(command)
 
     def begin(self, data):
         self.failed = None

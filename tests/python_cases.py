@@ -1266,8 +1266,9 @@ def numpy_kinds():
 
 def two_threads():
     """Blocks in one thread and messages, previews, copies and readings in another: no block is lost. The messages change nothing, so that
-    sample i of block n is frame (128n + i) mod L."""
-    frames, blocks, former = 128 * 100 + 37, 100000, sys.getswitchinterval()
+    sample i of block n is frame (128n + i) mod L. L is odd and above the number of blocks, so that none ends just behind the last frame, where the
+    position is the loop's end, and a block at the rate 0 brings it to the loop's start."""
+    frames, blocks, former = 128 * 1000 + 37, 100000, sys.getswitchinterval()
     p, is_over, wrong, sent = netthimble.Player(48000), threading.Event(), [], 0
     p.set_clip(netthimble.Clip.from_bits(48000, [array("I", range(frames))]))
     p.start()

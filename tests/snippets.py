@@ -5,8 +5,9 @@ Each block of Python is run in a fresh folder, with the package at hand. Each bl
 one, behind the usual headers. Of a block of shell commands those lines are run, in the repository's folder, that begin with one of CHEAP; others
 (the gate, ./trial) have tests of their own. A comment on the line before a fence says more of the block:
 
-    <!-- not run: WHY -->        it is not run; Python is compiled all the same
-    <!-- needs: MODULE .. -->    it is passed over where a module is not installed
+    <!-- not run: WHY -->        it is not run; Python is compiled all the same, as it is where it is passed over
+    <!-- needs: MODULE .. -->    it is passed over where a module is not installed; one that tests/stand_ins has is taken from there, and the
+                                 block finds a clip of two channels as clip.bin
     <!-- printed -->             this is what the block before it prints, every line
 """
 import importlib.util
@@ -18,21 +19,23 @@ import tempfile
 from pathlib import Path
 
 sys.path.insert(0, str(Path(__file__).resolve().parent.parent / "tools"))
+import transcripts  # noqa: E402
 from shared import CC, TOP, Checks, compile_c, library, options, run  # noqa: E402
 
 PAGES = ["README.md", "docs/LIBRARY.md"]
 CHEAP = r"([A-Z_]+=\S* )*(python3|cc|tools/build_library|target/c/\w+)( |$)"
 FENCE = re.compile(r"(?:^<!--(?P<mark>[^\n]*)-->\n)?^```(?P<kind>\w*)\n(?P<text>.*?)^```$", re.MULTILINE | re.DOTALL)
+STAND_INS = TOP / "tests/stand_ins"
 HEADERS = "".join(f"#include {name}\n" for name in ('"netthimble.h"', "<stdint.h>", "<stdio.h>", "<stdlib.h>", "<string.h>"))
 SECONDS = 120
 check = Checks("snippets", width=1500)
 
 
 def python(name, text, folder):
-    """Runs Python; what it prints, or None."""
+    """Runs Python, with two empty lines to be read; what it prints."""
     Path(folder, "snippet.py").write_text(text)
-    env = dict(os.environ, PYTHONPATH=str(TOP / "python"))
-    done = run([sys.executable, "-B", "-W", "error", "snippet.py"], folder=folder, env=env, timeout=SECONDS)
+    env = dict(os.environ, PYTHONPATH=f"{TOP}/python:{STAND_INS}")
+    done = run([sys.executable, "-B", "-W", "error", "snippet.py"], b"\n\n", folder, env=env, timeout=SECONDS)
     check(name, done.returncode == 0, done.stdout.decode())
     return done.stdout.decode()
 
@@ -67,10 +70,17 @@ def sh(name, text, _folder):
 RUNNERS = {"python": python, "py": python, "c": c, "sh": sh, "bash": sh, "console": sh}
 
 
-def missing(mark):
-    """The modules of a mark that are not installed."""
+def modules(mark):
+    """The modules that a mark names: those that have a stand-in, and the others."""
     needed = re.fullmatch(r"\s*needs:(.*)", mark)
-    return [module for module in (needed.group(1).split() if needed else []) if importlib.util.find_spec(module) is None]
+    named = needed.group(1).split() if needed else []
+    stood_in = [module for module in named if (STAND_INS / f"{module}.py").is_file()]
+    return stood_in, [module for module in named if module not in stood_in]
+
+
+def missing(mark):
+    """The modules of a mark that are not installed, and have no stand-in."""
+    return [module for module in modules(mark)[1] if importlib.util.find_spec(module) is None]
 
 
 def page(path):
@@ -85,13 +95,16 @@ def page(path):
         before = None
         if kind not in RUNNERS:
             continue
+        if kind in ("python", "py"):
+            compile(block, name, "exec")
         if mark.strip().startswith("not run:"):
-            if kind in ("python", "py"):
-                compile(block, name, "exec")
-        elif missing(mark):
+            continue
+        if missing(mark):
             print(f"snippets: {name} is passed over, for want of {', '.join(missing(mark))}")
         else:
             with tempfile.TemporaryDirectory() as folder:
+                if modules(mark)[0]:
+                    Path(folder, "clip.bin").write_bytes(transcripts.clip([0x3F000000] * 300 + [0x3E800000] * 300, 2))
                 before = RUNNERS[kind](name, block, folder)
             ran[kind] = ran.get(kind, 0) + 1
     return ran

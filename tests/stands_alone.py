@@ -1,9 +1,10 @@
 #!/usr/bin/env python3
 """The repository stands alone: no file that git tracks, nor its name, cites a paper that a reader doesn't have, a path of some machine or a package
-registry; each section that is cited is one of docs/REFERENCE.md; and each file that is named or linked is there. Each finding is a line
-'file:line: what'.
+registry; each section that is cited is one of docs/REFERENCE.md, or of the other page that is named; and each file that is named or linked is there.
+Each finding is a line 'file:line: what'.
 
-A section is cited so: docs/REFERENCE.md, 'Name', or 'Name' and 'Other name', all on one line. The patterns are tried on made-up lines first.
+A section is cited so: docs/REFERENCE.md, 'Name', or 'Name' and 'Other name', all on one line; of another page, which may be named without its
+folder, as oracle/README.md, 'Name'. The patterns are tried on made-up lines first.
 Passed over are records of work (docs/changes; their names count), NOTICE, and this file.
 """
 import bisect
@@ -23,10 +24,12 @@ RECORDS, PASSED_OVER = "docs/changes/", {"NOTICE", "tests/stands_alone.py"}
 UNIT = r"(?! ?(?:%|×|to \d|and \d|or \d|times|[nmµ]?s\b|seconds?|minutes?|hours?|frames?|samples?|blocks?|cents|million|[kMG]B))"
 PAPERS = [
     ("a paper by its number", "document", r"\bdocuments? 0?\d\b"),
+    ("a paper by its number", "doc", r"\bdocs?\.?(?: )?0\d\b"),
     ("a paper by its number", "-", r"\b0\d-(?:scope|change-requests)\b"),
-    ("a demand by its number", "demand", r"\bdemands? \d"),
-    ("an issue by its number", "issue", r"\bissues? #?\d"),
+    ("a demand by its number", "demand", r"\bdemands? (?:no\.(?: )?|number )?\d"),
+    ("an issue by its number", "issue", r"\bissues? (?:no\.(?: )?|number )?#?\d"),
     ("a paper", "paper", r"\b(?:the|this|that|our|these|those|scope) papers?\b"),
+    ("a customer", "customer", r"\bcustomers?\b"),
     ("the mission", "mission", r"\bmissions?\b"),
     ("a request", "request", r"\b(?:the|this|that|these|those|a|each|every|change) requests?\b"),
 ]
@@ -34,6 +37,7 @@ NUMBERED = "a paragraph by its number"
 PARAGRAPHS = [
     r"\b(?:words|tapes?|statements?|lists|readings?|rules?|tables?|terms|paragraphs?|sections?|\d and) of 2\.[1-9]\b(?!\.?\d)" + UNIT,
     r"\b(?:since|before|after|for|under|see|and of) 2\.[1-9]\b(?!\.?\d)" + UNIT,
+    r"(?:\b(?:per|cf\.|sections?|paragraphs?|requests?)|§)(?: )?2\.[1-9]\b(?!\.?\d)" + UNIT,
     r"\b2\.[1-9](?:'s\b| (?:says|leaves|retired|gives|wants|asks|allows|needs|reads|names|holds that)\b)",
     r"(?<![\w)\]])\(2\.[1-9](?:, 2\.[1-9])*(?:\)|[,;:] [A-Za-z'])",
     r"(?m)^[^\w\n]*2\.[1-9][,:] [A-Za-z']",
@@ -50,6 +54,7 @@ PATTERNS = [
 ]
 LEADER = re.compile(r"\n[ \t]*(?://[/!]?|--|#|\*(?!/)|;|\|)?")
 CITED = re.compile(r"\bREFERENCE\.md,( *)(?=(.?))")
+ELSEWHERE = re.compile(r"(?<![\w/.-])((?:[\w-]+/)*(?!REFERENCE)[A-Z]+\.md), (?=')")
 NAMED = re.compile(r"(?<![\w/.~$}{-])(?:tests|tools|oracle|docs|include|examples)/(?!NAME)[\w/.-]*\w")
 LINKED = re.compile(r"\]\(([^)\s#:]+)(?:#[^)]*)?\)")
 NEXT = re.compile(r",? and (?=')|, (?=')")
@@ -86,6 +91,17 @@ def sections(text, headings):
                 yield found.start(), None, "a section's name that ends in another line"
             else:
                 yield found.start(), name, None if name in headings else f"docs/REFERENCE.md has no section '{name}'"
+
+
+def sections_elsewhere(file, text):
+    """The citations of sections that other pages than docs/REFERENCE.md don't have."""
+    for found in ELSEWHERE.finditer(text):
+        places = (TOP / file).parent / found[1], TOP / found[1], TOP / "docs" / found[1]
+        page = next((place for place in places if place.is_file()), None)
+        known = headings(page.read_text(encoding="utf-8")) if page else []
+        for name in names_in(text[found.end() :].partition("\n")[0], known):
+            if name not in known:
+                yield found.start(), f"{found[1]} has no section '{name}'" if name else "a section's name that ends in another line"
 
 
 def absent(file, text):
@@ -145,10 +161,14 @@ documents 01 and 02
 those of document
 // 02, somewhere
 02-change-requests.md
+(doc 02)
 Demand 3 holds
+demand no. 3
 demands 1 to 3
 issue 37
 issues #4 and #5
+issue no. 37
+the customer's words
 the paper says
 this paper's number
 of the scope paper
@@ -162,6 +182,9 @@ the reading of
 since 2.4 they
 as before 2.3: no
 those for 2.7 |
+see section 2.4
+as in §2.4
+per 2.4, as
 2.6 says when
 2.6's tape
 in cents (2.1) too
@@ -183,6 +206,7 @@ round(2.5) = 3, f(2.5)
 [1.5, 2.5, 3.5]
     2.5, 1.0,
 before 2.5 ms
+per 2.5 ms, sections 2 and 3
 the frame rule, version 1.2
 Python 3.9, kit 12.5
 (2.5, 1.0)
@@ -212,6 +236,11 @@ FILES = [
     ("tests/stands_alon tools/prove.", ["there is no tests/stands_alon"]),
     ("see [one](README.md)", ["a link to README.md, which is not there"]),
 ]
+ELSEWHERES = [
+    ("as oracle/README.md, 'Our side', and docs/DECISIONS.md, 'Python', 'The player' say; PROTOCOL.md, 'Runs'", []),
+    ("(README.md, 'Our side'), RULE.md, 'Where it holds'", []),
+    ("docs/DECISIONS.md, 'Python 2' and DIFFERENCES.md, 'B99'", ["docs/DECISIONS.md has no section 'Python 2'", "DIFFERENCES.md has no section 'B99'"]),
+]
 NAMES = [
     ("docs/changes/2.6-switch.md", True), ("docs/changes/0-rooms.md", True), ("docs/changes/cents.md", False), ("specs/2.6-tape.antt", True),
     ("docs/02-change-requests.md", True), ("src/main.rt", False), ("kit-13f.txt", False), ("tests/document_01.py", True),
@@ -229,6 +258,9 @@ def self_test():
         wrong += [] if found == expected else [f"{text!r}: {found}"]
     for text, expected in FILES:
         found = [what for _, what in absent("docs/made-up.md", text)]
+        wrong += [] if found == expected else [f"{text!r}: {found}"]
+    for text, expected in ELSEWHERES:
+        found = [what for _, what in sections_elsewhere("oracle/made-up.md", text)]
         wrong += [] if found == expected else [f"{text!r}: {found}"]
     return wrong + [f"the name {name}: {in_name(name)}" for name, is_wrong in NAMES if bool(in_name(name)) != is_wrong]
 
@@ -248,7 +280,7 @@ def main():
             continue
         text = text_of(file)
         starts = [0, *(found.end() for found in re.finditer("\n", text))]
-        told = [*in_text(text), *absent(file, text)]
+        told = [*in_text(text), *absent(file, text), *sections_elsewhere(file, text)]
         for at, name, wrong in sections(text, known):
             cited += name is not None
             told += [(at, wrong)] if wrong and (known or name is None) else []

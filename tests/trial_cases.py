@@ -1,6 +1,7 @@
 #!/usr/bin/env python3
 """Runs crates/trial/out/trial on the clips and lines of tests/transcripts.py, and compares what it prints with theirs; and `./trial`, with and without
-a proved program: what it says where something is missing, and that a run that is tried prints what a proved one does.
+a proved program: what it says where something is missing, and that a run that is tried prints what a proved one does. Each command of the
+repository prints its usage.
 """
 import os
 import shutil
@@ -222,6 +223,22 @@ def as_it_stands():
     print(f"trial: the run that was tried took {took:.0f} s")
 
 
+def commands():
+    """Each command prints its usage with --help; those that prove say in one line that rt is missing."""
+    modes = (line.split("\t") for line in run(["git", "ls-files", "-s"]).stdout.decode().splitlines())
+    listed = [name for mode, name in modes if mode.startswith("100755")]
+    check("there are commands", {"trial", "tools/prove", "tools/build_library"} < set(listed), listed)
+    for name in listed:
+        done = run([TOP / name, "--help"], stderr=subprocess.PIPE)
+        check(f"{name} --help", done.returncode == 0 and done.stdout.startswith(b"usage: ") and not done.stderr, done)
+    if shutil.which("rt", path="/usr/bin:/bin") is not None:
+        return
+    for words in (["tools/prove", "trial"], ["tools/build_library"]):
+        done = run([TOP / words[0], *words[1:]], stderr=subprocess.PIPE, env={"PATH": "/usr/bin:/bin"})
+        expected = f"{words[0]}: rt, the Rattle toolchain's command, is not on PATH\n".encode()
+        check(f"{words[0]}, no rt", (done.returncode, done.stdout, done.stderr) == (2, b"", expected), done)
+
+
 def main():
     if not program("trial").exists():
         sys.exit("trial: crates/trial/out/trial is not built: tools/prove trial")
@@ -229,6 +246,7 @@ def main():
     for case in (options_and_absences, tried_runs, proved_runs):
         with_top(case)
     as_it_stands()
+    commands()
     return check.ended()
 
 

@@ -1,4 +1,4 @@
-/* `trial` over the C library: plays clip.bin of the working folder and obeys the lines of standard input (README.md, 'Playing a clip').
+/* `trial` over the C library: plays clip.bin of the working folder and obeys the lines of standard input (docs/REFERENCE.md, 'trial').
  * tests/c_cases.py compares what it prints with what `trial` prints. */
 #include "text.h"
 

@@ -21,6 +21,7 @@ are tests/transcripts.py's: a script of tests/ writes `import transcripts`. No s
 import argparse
 import functools
 import os
+import shlex
 import shutil
 import subprocess
 import sys
@@ -90,6 +91,15 @@ def must(words, folder=TOP, **more):
 def kit():
     """The toolchain's C library, which its programs are run under: asked for once, since that takes as long as a run."""
     return Path(subprocess.run(["rt", "doc"], stdout=subprocess.PIPE, check=True).stdout.decode().strip()).parent / "toolchain/lib"
+
+
+def command_of(text):
+    """A command's words, as a shell reads them; ends the script with a line where its program is not there."""
+    words = shlex.split(text)
+    if not (words and shutil.which(words[0])):
+        build = ": oracle/build.py makes it of the Rust original" if words == [str(ORACLE)] else ""
+        sys.exit(f"{Path(sys.argv[0]).name}: there is no program {text or 'of no name'}{build}")
+    return words
 
 
 def program(crate):

@@ -1,6 +1,6 @@
 //! The block call. A silent block is short, and so is what stands around the channels of another: that code is
 //! inlined in each call that plays a block. Channels are written by code that these calls share, so that they
-//! take the same time in each of them (docs/DECISIONS.md, 'What the calls that play a block share').
+//! take the same time in each of them (docs/DECISIONS.md, 'The C library').
 ghost use Rattle.std.specs.Prelude.{◌≡◌, true, false, not, ◌&&◌, ◌||◌, length, Ok, Err};
 ghost use Rattle.std.specs.Float.Ieee.{eq, ne};
 ghost use Rattle.buffer.specs.Limits.{Valid};

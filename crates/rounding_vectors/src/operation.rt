@@ -2,6 +2,7 @@
 use rounding::BinaryFloat;
 use std::fmt;
 
+/// The function of `rounding` or `fused` that a line asks for, by its code.
 #[derive(Clone, Copy, Debug, PartialEq, Eq)]
 pub enum Operation {
     Fma,

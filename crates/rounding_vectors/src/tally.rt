@@ -1,6 +1,7 @@
 //! The lines of one operation: how many were run, and how many answers differed.
 use std::fmt;
 
+/// The counts of one operation's lines.
 #[derive(Clone, Copy, Debug, Default)]
 pub struct Tally {
     runs: u64,
