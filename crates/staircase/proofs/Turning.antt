@@ -1,6 +1,6 @@
 -- The reversals of a list, level after level: a level that stays, and a move in a direction. Assumes nothing.
 use Rattle.std.proofs.Common.{◌≡◌, refl, sym, ap, ◌∙◌, Bool, true, false, not, cond, List, [], ◌∷◌, ◌++◌, ℕ, ◌+◌, ◌<◌, eqb, ltb, length, get_or, drop, add-one, drop-cons, arith}
-use Rattle.std.proofs.lemmas.Bool.{eq-eqb, ne_eqb}
+use Rattle.std.proofs.lemmas.Bool.{eq-eqb, ne_eqb, eqb-true, eqb-false}
 use Rattle.std.specs.Prelude.{Option, None, Some}
 use Rattle.std.specs.Bool.{beq}
 use Rattle.std.specs.Option.{option_to_list, option_eq}
@@ -46,6 +46,27 @@ pub loop_moves : (last : Option Bool) (level : ℕ) (levels : List ℕ) (i : ℕ
     ≡ turned last (ltb level (get_or levels i 0)) + ahead (Some (ltb level (get_or levels i 0))) (get_or levels i 0) (drop (i + 1) levels)
 loop_moves last level levels i h e =
     next_ahead last level levels i h ∙ ahead_moves last level (get_or levels i 0) (drop (i + 1) levels) (ne_eqb _ _ e)
+
+-- by the move's direction
+none_stays : (stays up : Bool) → None ≡ cond stays None (Some up) → stays ≡ true
+none_stays true up e = refl
+none_stays false up e = cc
+
+some_moves : (stays up to : Bool) → Some to ≡ cond stays None (Some up) → (stays ≡ false) × (up ≡ to)
+some_moves true up to e = cc
+some_moves false up to e = (refl, cc)
+
+module _ (last : Option Bool) (level : ℕ) (levels : List ℕ) (i : ℕ) (within : i < length levels) where
+  pub loop_none : None ≡ cond (eqb (get_or levels i 0) level) None (Some (ltb level (get_or levels i 0)))
+      → ahead last level (drop i levels) ≡ ahead last level (drop (i + 1) levels)
+  loop_none e = loop_stays last level levels i within (eqb-true (get_or levels i 0) level (none_stays _ _ e))
+
+  pub loop_some : (to : Bool) → Some to ≡ cond (eqb (get_or levels i 0) level) None (Some (ltb level (get_or levels i 0)))
+      → ahead last level (drop i levels) ≡ turned last to + ahead (Some to) (get_or levels i 0) (drop (i + 1) levels)
+  loop_some to e =
+      let is = some_moves _ _ to e in
+      loop_moves last level levels i within (eqb-false (get_or levels i 0) level is.0)
+      ∙ ap (λ up. turned last up + ahead (Some up) (get_or levels i 0) (drop (i + 1) levels)) is.1
 
 -- the first level is met twice
 pub loop_begins : (levels : List ℕ) → ahead None (get_or levels 0 0) levels ≡ changes (moves levels)

@@ -5,4 +5,4 @@ use Rattle.staircase.proofs.Turning.{ahead}
 use Rattle.staircase.proofs.reversing.reversals.Given as goal
 
 abbrev pub invariant-loop-next : goal.invariant-loop-next
-invariant-loop-next l = (l.found ≤ l.next-index) × (l.found + ahead l.direction l.level (drop l.next-index l.levels) ≡ reversals l.levels)
+invariant-loop-next l = (l.found ≤ l.next-index) × (l.found + ahead l.last l.level (drop l.next-index l.levels) ≡ reversals l.levels)
