@@ -17,7 +17,8 @@ from .binding import FRAMES, NEVER
 from .clips import Clip, load, load_old
 from .errors import WORDS, Refused
 from .players import Block, Player, factor
+from .staircase import Track, staircase
 from .tolerances import Tolerances
 
 __version__ = "1.2.0"
-__all__ = ["FRAMES", "NEVER", "WORDS", "Block", "Clip", "Player", "Refused", "Tolerances", "factor", "load", "load_old"]
+__all__ = ["FRAMES", "NEVER", "WORDS", "Block", "Clip", "Player", "Refused", "Tolerances", "Track", "factor", "load", "load_old", "staircase"]

@@ -26,6 +26,10 @@ after_reply step s heard =
 abbrev pub reply_to : ℕ → ℕ → Bool → Bool
 reply_to threshold level lapse = let heard = leb threshold level in cond lapse (not heard) heard
 
+-- 1,000 places of 0 and unheard
+abbrev pub blank : Track
+blank = record { levels = replicate 1000 0; heard = replicate 1000 false; reversals = 0 }
+
 module _ (start threshold step : ℕ) (lapses : List ℕ) where
   -- before trial k
   unfoldable pub stair_at : ℕ → Stair
@@ -39,11 +43,11 @@ module _ (start threshold step : ℕ) (lapses : List ℕ) where
   abbrev pub reply : ℕ → Bool
   reply k = reply_to threshold (level k) (is_lapse lapses k)
 
-  -- 1,000 places: the trials', then only 0 and unheard; the reversals are those of the trials' levels
+  -- the trials' levels and replies, then only 0 and unheard; the reversals are those of the trials' levels
   abbrev pub track : ℕ → Track
   track trials = record {
-    levels = filled trials level (replicate 1000 0);
-    heard = filled trials reply (replicate 1000 false);
+    levels = filled trials level blank.levels;
+    heard = filled trials reply blank.heard;
     reversals = reversals (table trials level);
   }
 

@@ -6,7 +6,7 @@ ghost use Rattle.std.specs.Prelude.{◌≡◌, ◌≤◌, ◌<◌, IfOk};
 ghost use Rattle.buffer.specs.Answers.{check};
 ghost use Rattle.buffer.specs.declared.refusals.Refusal.TheVariants as refused;
 ghost use Rattle.lists.specs.Table.{table};
-ghost use Rattle.staircase.specs.Staircase.{is_accepted, is_lapse, reply_to, after_reply, staircase};
+ghost use Rattle.staircase.specs.Staircase.{blank, is_accepted, is_lapse, reply_to, after_reply, staircase};
 ghost use Rattle.staircase.specs.Known.{KnownStaircases};
 ghost use Rattle.staircase.specs.Statement.{Staircases};
 
@@ -33,6 +33,19 @@ pub struct Track {
     pub heard: [bool; PLACES],
     /// How often the trials' levels change their direction, those that stay skipped.
     pub reversals: usize,
+}
+
+impl Track {
+    /// A track of no trials.
+    pub fn blank() -> Self
+        ensures { result ≡ blank }
+    {
+        Self {
+            levels: [0; PLACES],
+            heard: [false; PLACES],
+            reversals: 0,
+        }
+    }
 }
 
 // Where a staircase stands before a trial: the level in decibels, and how many heard replies in a row are counted.
@@ -113,24 +126,19 @@ pub fn staircase(
     check(start, threshold, step, trials)?;
     let (threshold, step) = (threshold as u8, step as u8);
     let marks = marked(lapses);
-    let mut levels = [0; PLACES];
-    let mut heard = [false; PLACES];
+    let mut track = Track::blank();
     let mut stair = Stair {
         level: start as u8,
         count: 0,
     };
     for k in 0..trials {
         let reply = reply_to(threshold, stair.level, marks[k]);
-        levels[k] = stair.level;
-        heard[k] = reply;
+        track.levels[k] = stair.level;
+        track.heard[k] = reply;
         stair = stair.after_reply(step, reply);
     }
-    let reversals = reversals(&levels[..trials]);
-    Ok(Track {
-        levels,
-        heard,
-        reversals,
-    })
+    track.reversals = reversals(&track.levels[..trials]);
+    Ok(track)
 }
 
 /// What holds of every staircase.

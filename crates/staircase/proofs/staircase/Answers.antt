@@ -1,9 +1,9 @@
 -- `staircase::staircase`: a trial stores its level and its reply, and the trials' levels have the reversals.
-use Rattle.std.proofs.Common.{◌≡◌, ◌∙◌, ◌≤◌, ℕ, false, sym, ap, get_or, add-one, take, replicate, arith}
+use Rattle.std.proofs.Common.{◌≡◌, ◌∙◌, ◌≤◌, ℕ, false, sym, ap, get_or, add-one, take, arith}
 use Rattle.std.proofs.lemmas.List.{length-replicate}
 use Rattle.lists.specs.Table.{table, get_or_table, filled, filled_more}
 use Rattle.staircase.specs.Reversals.{reversals}
-use Rattle.staircase.specs.Staircase.{is_lapse, reply_to, after_reply, stair_at, level, reply, staircase}
+use Rattle.staircase.specs.Staircase.{blank, is_lapse, reply_to, after_reply, stair_at, level, reply, staircase}
 use Rattle.staircase.proofs.Tracks.{take_filled}
 use Rattle.staircase.proofs.staircase.Goals as goal
 
@@ -34,11 +34,11 @@ returns c =
     let replies = reply c.args.start c.args.threshold c.args.step c.args.lapses.now in
     let all : at.k ≡ trials = omega arith in
     let few : trials ≤ 1000 = c.in_ok-check.ensures.small.3 in
-    let filled_levels : at.levels ≡ filled trials levels (replicate 1000 0) = at.invariant.1 ∙ ap (λ n. filled n levels (replicate 1000 0)) all in
-    let filled_replies : at.heard ≡ filled trials replies (replicate 1000 false) =
-    at.invariant.2 ∙ ap (λ n. filled n replies (replicate 1000 false)) all in
-    let turned : c.reversals-reversals.result ≡ reversals (table trials levels) =
-    c.reversals-reversals.ensures ∙ ap (λ ls. reversals (take trials ls)) filled_levels
-    ∙ ap reversals (take_filled trials trials levels (replicate 1000 0) (omega arith) (rw (length-replicate {A = ℕ} 1000 0) few)) in
+    let filled_levels : at.track.levels ≡ filled trials levels blank.levels = at.invariant.1 ∙ ap (λ n. filled n levels blank.levels) all in
+    let filled_replies : at.track.heard ≡ filled trials replies blank.heard =
+    at.invariant.2 ∙ ap (λ n. filled n replies blank.heard) all in
+    let turned : c.reversals.result ≡ reversals (table trials levels) =
+    c.reversals.ensures ∙ ap (λ ls. reversals (take trials ls)) filled_levels
+    ∙ ap reversals (take_filled trials trials levels blank.levels (omega arith) (rw (length-replicate {A = ℕ} 1000 0) few)) in
     let told = c.in_ok-check.ensures.answer in
     rw (← told) cc

@@ -2,11 +2,11 @@
 -- Assumes nothing.
 use Rattle.std.proofs.Common.{◌≡◌}
 use Rattle.lists.specs.Table.{filled}
-use Rattle.staircase.specs.Staircase.{stair_at, level, reply}
+use Rattle.staircase.specs.Staircase.{blank, stair_at, level, reply}
 use Rattle.staircase.proofs.staircase.Given as goal
 
 abbrev pub invariant-loop-k : goal.invariant-loop-k
 invariant-loop-k l =
     (l.stair ≡ stair_at l.fn.start l.threshold l.step l.lapses l.k)
-    × (l.levels ≡ filled l.k (level l.fn.start l.threshold l.step l.lapses) l.initial.levels)
-    × (l.heard ≡ filled l.k (reply l.fn.start l.threshold l.step l.lapses) l.initial.heard)
+    × (l.track.levels ≡ filled l.k (level l.fn.start l.threshold l.step l.lapses) blank.levels)
+    × (l.track.heard ≡ filled l.k (reply l.fn.start l.threshold l.step l.lapses) blank.heard)
