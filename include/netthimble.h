@@ -452,11 +452,11 @@ netthimble_shaped netthimble_convert_with(netthimble_shape shape, const uint32_t
 
 /* ---- a staircase, tried before listeners come */
 
-/* A two-down one-up staircase from the level `start`, with a simulated listener who hears at and above `threshold`; all in whole decibels. Two
- * heard replies in a row lower the level by `step`, one unheard raises it, and either restarts the count; levels stop at 0 and 120. Trials
- * count from 0; on each trial that stands in `lapses`, in any order, the reply is reversed, once. An entry that stands there again, or is no
- * trial, changes nothing. The call takes time in proportion to `trials` and `lapses_len` together, and no player. docs/REFERENCE.md,
- * 'Staircase'. Refused: 22. */
+/* A two-down one-up staircase from the level `start`, with a simulated listener who hears at and above `threshold`; all in whole decibels
+ * (docs/REFERENCE.md, 'Staircase'). Two heard replies in a row lower the level by `step`, one unheard raises it, and either restarts the
+ * count; levels stop at 0 and 120. Trials count from 0; on each trial that stands in `lapses`, in any order, the reply is reversed, once. An
+ * entry that stands there again, or is no trial, changes nothing. The call takes time in proportion to `trials` and `lapses_len` together,
+ * and no player. Refused: 22. */
 netthimble_tracked netthimble_staircase(uint64_t start, uint64_t threshold, uint64_t step, size_t trials, const size_t *lapses, size_t lapses_len);
 
 /* ---- a sample's value and its bits */

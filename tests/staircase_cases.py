@@ -113,7 +113,8 @@ def limits(call):
 def at_random(call, r):
     for _ in range(RANDOM_CASES):
         trials = r.choice([r.randint(1, 12), r.randint(1, 1000), 1000])
-        entries = [r.choice([r.randrange(trials), r.randrange(trials), trials, 999, 1000, 1001, HIGHEST]) for _ in range(r.choice([0, 1, 4, trials // 3, trials]))]
+        count = r.choice([0, 1, 4, trials // 3, trials])
+        entries = [r.choice([r.randrange(trials), r.randrange(trials), trials, 999, 1000, 1001, HIGHEST]) for _ in range(count)]
         given = r.randint(0, 120), r.randint(0, 120), r.randint(1, 20), trials, entries + r.sample(entries, len(entries) // 2)
         check(f"{given}"[:200], beside(call, *given), "differs from the reading")
 
@@ -160,8 +161,9 @@ def package(r):
         rest = PLACES - track.trials
         check(f"package {given}, the rest"[:80], track.levels[track.trials :] == [0] * rest and track.heard[track.trials :] == [False] * rest, "")
     refused = [
-        ((0, 0, 0, 1), "step=0"), ((0, 0, 21, 1), "step=21"), ((121, 0, 1, 1), "start=121"), ((0, 121, 1, 1), "threshold=121"), ((0, 0, 1, 0), "trials=0"),
-        ((0, 0, 1, 1001), "trials=1001"), ((-1, 0, 1, 1), "start=-1"), ((0, 0, 2**64 + 1, 1), "step=18446744073709551617"), ((0, 0, -1, 2**64 + 5), "step=-1, trials=18446744073709551621"),
+        ((0, 0, 0, 1), "step=0"), ((0, 0, 21, 1), "step=21"), ((121, 0, 1, 1), "start=121"), ((0, 121, 1, 1), "threshold=121"),
+        ((0, 0, 1, 0), "trials=0"), ((0, 0, 1, 1001), "trials=1001"), ((-1, 0, 1, 1), "start=-1"), ((0, 0, 2**64 + 1, 1), f"step={2**64 + 1}"),
+        ((0, 0, -1, 2**64 + 5), f"step=-1, trials={2**64 + 5}"),
     ]  # fmt: skip
     for given, named in refused:
         wrong = error(*given)
@@ -218,10 +220,12 @@ def picture(start, threshold, step, trials, lapses):
 
 def pictures():
     """A mark for each trial, and a ring for each reversal; the legend has one of each more."""
-    for start, threshold, step, trials, lapses in [(60, 42, 4, 60, {20}), (2, 0, 5, 8, {4}), (0, 0, 1, 1, set()), (118, 120, 20, 1000, {3, 5}), (120, 0, 1, 1000, set())]:
+    cases = [(60, 42, 4, 60, {20}), (2, 0, 5, 8, {4}), (0, 0, 1, 1, set()), (118, 120, 20, 1000, {3, 5}), (120, 0, 1, 1000, set())]
+    for start, threshold, step, trials, lapses in cases:
         levels, replies, turns = tried(start, threshold, step, trials, lapses)
         drawn, status = picture(start, threshold, step, trials, lapses)
-        rings, marks = len(re.findall('fill="none" stroke="#c0392b"', drawn)) - 1, len(re.findall(r"<circle [^>]*stroke=\"#1f5fa8\"", drawn)) - 2
+        rings = len(re.findall('fill="none" stroke="#c0392b"', drawn)) - 1
+        marks = len(re.findall('<circle [^>]*stroke="#1f5fa8"', drawn)) - 2
         check(f"picture {(start, threshold, step, trials)}", status == 0 and rings == turns and marks == trials, f"{rings} rings, {marks} marks")
         check(f"picture {(start, threshold, step, trials)}, words", all(word in drawn for word in ("level (dB)", ">trial<", f"threshold, {threshold} dB")), "")
         mean = re.search(r"mean of the levels at reversals, ([0-9.]+) dB", drawn)

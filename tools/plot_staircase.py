@@ -75,8 +75,8 @@ class Axes:
         return out
 
 
-def line_across(y, colour, dashes):
-    return f'<line x1="{LEFT}" y1="{y:.1f}" x2="{WIDTH - RIGHT}" y2="{y:.1f}" stroke="{colour}" stroke-width="1.5" stroke-dasharray="{dashes}"/>'
+def line_across(y, colour, dashes, start=LEFT, end=WIDTH - RIGHT):
+    return f'<line x1="{start}" y1="{y:.1f}" x2="{end}" y2="{y:.1f}" stroke="{colour}" stroke-width="1.5" stroke-dasharray="{dashes}"/>'
 
 
 def legend(asked, mean):
@@ -86,15 +86,14 @@ def legend(asked, mean):
         (f'<circle cx="7" cy="{y - 4}" r="4" fill="{BLUE}" stroke="{BLUE}"/>', "heard"),
         (f'<circle cx="7" cy="{y - 4}" r="4" fill="white" stroke="{BLUE}" stroke-width="1.5"/>', "unheard"),
         (f'<circle cx="7" cy="{y - 4}" r="7" fill="none" stroke="{RED}" stroke-width="1.5"/>', "reversal"),
-        (f'<line x1="-4" y1="{y - 4}" x2="18" y2="{y - 4}" stroke="{GREEN}" stroke-width="1.5" stroke-dasharray="6 4"/>', f"threshold, {asked['threshold']} dB"),
+        (line_across(y - 4, GREEN, "6 4", -4, 18), f"threshold, {asked['threshold']} dB"),
     ]
     if mean is not None:
-        line = f'<line x1="-4" y1="{y - 4}" x2="18" y2="{y - 4}" stroke="{RED}" stroke-width="1.5" stroke-dasharray="2 3"/>'
-        entries.append((line, f"mean of the levels at reversals, {mean:.1f} dB"))
+        entries.append((line_across(y - 4, RED, "2 3", -4, 18), f"mean of the levels at reversals, {mean:.1f} dB"))
     x = LEFT
     for mark, words in entries:
         out.append(f'<g transform="translate({x} 0)">{mark}<text x="24" y="{y}">{words}</text></g>')
-        x += 46 + 6.4 * len(words)
+        x += 52 + 6.4 * len(words)
     return out
 
 

@@ -40,33 +40,22 @@ static void by_hand(void) {
     CHECK(is(&t, 7, top, "0110110", 3));
 }
 
+static uint32_t refusal(uint64_t start, uint64_t threshold, uint64_t step, size_t trials) {
+    netthimble_tracked t = netthimble_staircase(start, threshold, step, trials, NULL, 0);
+    CHECK(t.refusal == 0 || is_refused(&t));
+    return t.refusal;
+}
+
+/* Both sides of each limit; then numbers that would be good ones if they wrapped at 2^32, and -1. */
 static void refusals(void) {
-    const uint64_t far[] = {UINT64_C(1) << 32, (UINT64_C(1) << 32) + 5, UINT64_MAX, (uint64_t)-1};
-    netthimble_tracked t = netthimble_staircase(120, 120, 20, 1000, NULL, 0);
-    CHECK(t.refusal == 0);
-    t = netthimble_staircase(0, 0, 1, 1, NULL, 0);
-    CHECK(t.refusal == 0);
-    t = netthimble_staircase(121, 0, 1, 1, NULL, 0);
-    CHECK(is_refused(&t));
-    t = netthimble_staircase(0, 121, 1, 1, NULL, 0);
-    CHECK(is_refused(&t));
-    t = netthimble_staircase(0, 0, 0, 1, NULL, 0);
-    CHECK(is_refused(&t));
-    t = netthimble_staircase(0, 0, 21, 1, NULL, 0);
-    CHECK(is_refused(&t));
-    t = netthimble_staircase(0, 0, 1, 0, NULL, 0);
-    CHECK(is_refused(&t));
-    t = netthimble_staircase(0, 0, 1, 1001, NULL, 0);
-    CHECK(is_refused(&t));
-    for (size_t i = 0; i < 4; i++) {
-        t = netthimble_staircase(far[i], 0, 1, 1, NULL, 0);
-        CHECK(is_refused(&t));
-        t = netthimble_staircase(0, far[i], 1, 1, NULL, 0);
-        CHECK(is_refused(&t));
-        t = netthimble_staircase(0, 0, far[i], 1, NULL, 0);
-        CHECK(is_refused(&t));
-        t = netthimble_staircase(0, 0, 1, (size_t)far[i], NULL, 0);
-        CHECK(is_refused(&t));
+    const uint64_t far[] = {UINT64_C(1) << 32, (UINT64_C(1) << 32) + 5, (uint64_t)-1};
+    CHECK(refusal(120, 120, 20, 1000) == 0 && refusal(0, 0, 1, 1) == 0);
+    CHECK(refusal(121, 0, 1, 1) == 22 && refusal(0, 121, 1, 1) == 22);
+    CHECK(refusal(0, 0, 0, 1) == 22 && refusal(0, 0, 21, 1) == 22);
+    CHECK(refusal(0, 0, 1, 0) == 22 && refusal(0, 0, 1, 1001) == 22);
+    for (size_t i = 0; i < 3; i++) {
+        CHECK(refusal(far[i], 0, 1, 1) == 22 && refusal(0, far[i], 1, 1) == 22);
+        CHECK(refusal(0, 0, far[i], 1) == 22 && refusal(0, 0, 1, (size_t)far[i]) == 22);
     }
 }
 

@@ -2,6 +2,7 @@
 use Rattle.std.specs.Prelude.{◌≡◌, Bool, true, false, List, [], ◌∷◌, ℕ, ◌-◌, ◌^◌, take, Result, Ok, Err}
 use Rattle.buffer.specs.declared.refusals.Refusal.{Refusal}
 use Rattle.buffer.specs.declared.refusals.Refusal.TheVariants as refused
+use Rattle.staircase.specs.Reversals.{reversals}
 use Rattle.staircase.specs.Staircase.{is_accepted, staircase}
 use Rattle.staircase.specs.declared.Track.{Track}
 
@@ -38,6 +39,10 @@ pub record KnownStaircases : Type 0 where
         true ∷ true ∷ true ∷ true ∷ true ∷ true ∷ false ∷ true ∷ true ∷ false ∷ [],
         2,
       )
+  pub before_it : reversals (20 ∷ 20 ∷ 16 ∷ 16 ∷ 12 ∷ 12 ∷ 8 ∷ []) ≡ 0
+  pub first_one : reversals (20 ∷ 20 ∷ 16 ∷ 16 ∷ 12 ∷ 12 ∷ 8 ∷ 12 ∷ []) ≡ 1
+  -- a level that stays is no change of direction, wherever it stands
+  pub staying : reversals (5 ∷ 5 ∷ 7 ∷ 7 ∷ 7 ∷ 9 ∷ 9 ∷ 8 ∷ 8 ∷ []) ≡ 1
   -- the limits are accepted, and nothing beyond them
   pub highest : is_accepted 120 120 20 1000 ≡ true
   pub lowest : is_accepted 0 0 1 1 ≡ true
