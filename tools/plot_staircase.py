@@ -9,7 +9,7 @@ import sys
 
 from shared import options
 
-WIDTH, HEIGHT = 900, 420
+WIDTH, HEIGHT, TRIAL = 900, 420, 7  # at least so wide; a trial has at least so much
 LEFT, RIGHT, TOP, BOTTOM = 64, 24, 64, 52
 BLUE, RED, GREEN, GREY = "#1f5fa8", "#c0392b", "#2e7d32", "#ccc"
 
@@ -51,9 +51,10 @@ class Axes:
         self.by = steps_of(high - low + 2, 8)
         self.low, self.high = (low - 1) // self.by * self.by, -(-(high + 1) // self.by) * self.by
         self.count = len(levels)
+        self.right = max(WIDTH, LEFT + RIGHT + TRIAL * self.count) - RIGHT
 
     def x(self, trial):
-        return LEFT + (WIDTH - LEFT - RIGHT) * (trial + 0.5) / self.count
+        return LEFT + (self.right - LEFT) * (trial + 0.5) / self.count
 
     def y(self, level):
         return TOP + (HEIGHT - TOP - BOTTOM) * (self.high - level) / (self.high - self.low)
@@ -62,20 +63,20 @@ class Axes:
         out = []
         for level in range(max(self.low, 0), min(self.high, 120) + 1, self.by):
             y = self.y(level)
-            out.append(f'<line x1="{LEFT}" y1="{y:.1f}" x2="{WIDTH - RIGHT}" y2="{y:.1f}" stroke="{GREY}" stroke-width="0.5"/>')
+            out.append(f'<line x1="{LEFT}" y1="{y:.1f}" x2="{self.right}" y2="{y:.1f}" stroke="{GREY}" stroke-width="0.5"/>')
             out.append(f'<text x="{LEFT - 8}" y="{y + 4:.1f}" text-anchor="end">{level}</text>')
-        for trial in range(0, self.count, steps_of(self.count, 12)):
+        for trial in range(0, self.count, steps_of(self.count, (self.right - LEFT) // 60)):
             x = self.x(trial)
             out.append(f'<line x1="{x:.1f}" y1="{HEIGHT - BOTTOM}" x2="{x:.1f}" y2="{HEIGHT - BOTTOM + 5}" stroke="black"/>')
             out.append(f'<text x="{x:.1f}" y="{HEIGHT - BOTTOM + 18}" text-anchor="middle">{trial}</text>')
         bottom, middle = HEIGHT - BOTTOM, TOP + (HEIGHT - TOP - BOTTOM) / 2
-        out.append(f'<path d="M{LEFT},{TOP} V{bottom} H{WIDTH - RIGHT}" fill="none" stroke="black"/>')
-        out.append(f'<text x="{LEFT + (WIDTH - LEFT - RIGHT) / 2}" y="{HEIGHT - 12}" text-anchor="middle">trial</text>')
+        out.append(f'<path d="M{LEFT},{TOP} V{bottom} H{self.right}" fill="none" stroke="black"/>')
+        out.append(f'<text x="{(LEFT + self.right) / 2}" y="{HEIGHT - 12}" text-anchor="middle">trial</text>')
         out.append(f'<text x="18" y="{middle}" text-anchor="middle" transform="rotate(-90 18 {middle})">level (dB)</text>')
         return out
 
 
-def line_across(y, colour, dashes, start=LEFT, end=WIDTH - RIGHT):
+def line_across(y, colour, dashes, start, end):
     return f'<line x1="{start}" y1="{y:.1f}" x2="{end}" y2="{y:.1f}" stroke="{colour}" stroke-width="1.5" stroke-dasharray="{dashes}"/>'
 
 
@@ -100,15 +101,15 @@ def legend(asked, mean):
 def picture(asked, levels, heard, reversals):
     axes, turns = Axes(levels, asked["threshold"]), turning(levels)
     mean = sum(levels[k] for k in turns) / len(turns) if turns else None
-    radius = max(1.5, min(4.0, 0.35 * (axes.x(1) - axes.x(0))))
-    out = [f'<svg xmlns="http://www.w3.org/2000/svg" viewBox="0 0 {WIDTH} {HEIGHT}" font-family="sans-serif" font-size="12">']
-    out.append(f'<rect width="{WIDTH}" height="{HEIGHT}" fill="white"/>')
+    radius, width = min(4.0, 0.35 * (axes.x(1) - axes.x(0))), axes.right + RIGHT
+    out = [f'<svg xmlns="http://www.w3.org/2000/svg" viewBox="0 0 {width} {HEIGHT}" font-family="sans-serif" font-size="12">']
+    out.append(f'<rect width="{width}" height="{HEIGHT}" fill="white"/>')
     title = f"Two-down one-up, from {asked['start']} dB in steps of {asked['step']} dB: {len(levels)} trials, {reversals} reversals"
     out.append(f'<text x="{LEFT}" y="22" font-size="14">{title}</text>')
     out += legend(asked, mean) + axes.drawn()
-    out.append(line_across(axes.y(asked["threshold"]), GREEN, "6 4"))
+    out.append(line_across(axes.y(asked["threshold"]), GREEN, "6 4", LEFT, axes.right))
     if mean is not None:
-        out.append(line_across(axes.y(mean), RED, "2 3"))
+        out.append(line_across(axes.y(mean), RED, "2 3", LEFT, axes.right))
     points = " ".join(f"{axes.x(k):.1f},{axes.y(level):.1f}" for k, level in enumerate(levels))
     out.append(f'<polyline points="{points}" fill="none" stroke="{BLUE}" stroke-width="1"/>')
     for k, level in enumerate(levels):
