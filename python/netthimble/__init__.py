@@ -9,6 +9,7 @@
     block.position, block.ended    # seconds of the clip; whether the player has ended
     player.block(0.01, cents=-50)  # the next block, a quarter tone lower
     player.preview(0.02)           # what the block at 0.02 would be; the player stays
+    netthimble.staircase(60, 42, 4, 30).levels  # a two-down one-up staircase, tried on a simulated listener
 
 A wrong type is a TypeError that names the argument. A value that the library refuses raises Refused, a ValueError with the number of the
 table (docs/REFERENCE.md, 'Refusals'), and changes nothing.
