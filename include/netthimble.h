@@ -10,8 +10,8 @@
  * netthimble_new_with then answer the player that never plays, and a message the player that it was handed, as it was.
  *
  * The library keeps no pointer, allocates nothing and has no state of its own. No call takes a lock, waits, or calls the system; of the C
- * library it calls memcpy, memmove and memset. A block takes less than 16 KiB of stack, as tests/c/stack.c measures it, and another call less
- * than 2 KiB. A block's time depends on its inputs: docs/LIBRARY.md has the longest that was found.
+ * library it calls memcpy, memmove and memset. A block takes less than 16 KiB of stack, as tests/c/stack.c measures it, a staircase less than
+ * 8 KiB, and another call less than 2 KiB. A block's time depends on its inputs: docs/LIBRARY.md has the longest that was found.
  *
  * Threads. A player belongs to one thread at a time: a call reads and alters the record, and has no lock inside. Where one thread plays
  * blocks while another sends messages to the same record, a message can be lost, or a block undone, without a word. So let the audio
@@ -59,6 +59,9 @@ extern "C" {
 #define NETTHIMBLE_OUT 4096
 #define NETTHIMBLE_FRAMES 128
 
+/* The places of a staircase's track: its most trials. */
+#define NETTHIMBLE_TRIALS 1000
+
 /* The refusals, each with the condition that it stands for (docs/REFERENCE.md, 'Refusals'). Of several that apply, a call answers the first in
  * the order that stands at the call. */
 enum {
@@ -80,7 +83,8 @@ enum {
     NETTHIMBLE_LAYOUT = 15,  /* clip: header, offsets or length differ from the layout; to be written: no frames, or a file over 65,536 bytes */
     NETTHIMBLE_CENTS = 16,   /* cents outside -12,000..12,000 */
     NETTHIMBLE_ONSET = 17,   /* clip with an onset: the onset is not below the frames */
-    NETTHIMBLE_TOLERANCE = 18 /* tolerances: one that is not finite, or outside 0..1 */
+    NETTHIMBLE_TOLERANCE = 18, /* tolerances: one that is not finite, or outside 0..1 */
+    NETTHIMBLE_STAIRCASE = 22 /* staircase: the step is 0 or over 20, start or threshold over 120, or the trials not 1..1,000 */
 };
 
 /* ---- the records */
@@ -216,6 +220,19 @@ typedef struct {
 /* Its former name. */
 typedef netthimble_count netthimble_copy;
 
+/* What a staircase went through. The places at and beyond the number of trials hold 0 and false. */
+typedef struct {
+    uint8_t levels[NETTHIMBLE_TRIALS]; /* each trial's level in decibels, 0 to 120 */
+    bool heard[NETTHIMBLE_TRIALS];     /* each trial's reply, after a lapse: whether it is that the listener heard */
+    size_t reversals;                  /* how often the trials' levels change their direction, those that stay skipped */
+} netthimble_track;
+
+/* The track of a staircase; zeros where it is refused. */
+typedef struct {
+    netthimble_track track;
+    uint32_t refusal;
+} netthimble_tracked;
+
 #if defined(__cplusplus)
 #define NETTHIMBLE_HOLDS(name, fact) static_assert(fact, #name)
 #elif defined(__STDC_VERSION__) && __STDC_VERSION__ >= 201112L
@@ -284,6 +301,13 @@ NETTHIMBLE_AT(parts, refusal, refusal, 48);
 NETTHIMBLE_HOLDS(count_size, sizeof(netthimble_count) == 16);
 NETTHIMBLE_AT(count, count, count, 0);
 NETTHIMBLE_AT(count, refusal, refusal, 8);
+NETTHIMBLE_HOLDS(track_size, sizeof(netthimble_track) == 2008);
+NETTHIMBLE_AT(track, levels, levels, 0);
+NETTHIMBLE_AT(track, heard, heard, 1000);
+NETTHIMBLE_AT(track, reversals, reversals, 2000);
+NETTHIMBLE_HOLDS(tracked_size, sizeof(netthimble_tracked) == 2016);
+NETTHIMBLE_AT(tracked, track, track, 0);
+NETTHIMBLE_AT(tracked, refusal, refusal, 2008);
 
 /* ---- the records' sizes */
 
@@ -425,6 +449,15 @@ netthimble_shaped netthimble_convert(netthimble_shape shape, const uint32_t *sam
  * buffer's (the difference rounded to float). A conversion uses no other of them. Refused as they are: 1, 2, 7; and 8. */
 netthimble_shaped netthimble_converted_shape_with(netthimble_shape shape, size_t len, float sample_rate, netthimble_tolerances tolerances);
 netthimble_shaped netthimble_convert_with(netthimble_shape shape, const uint32_t *samples, size_t samples_len, float sample_rate, netthimble_tolerances tolerances, uint32_t *out, size_t out_len);
+
+/* ---- a staircase, tried before listeners come */
+
+/* A two-down one-up staircase from the level `start`, with a simulated listener who hears at and above `threshold`; all in whole decibels
+ * (docs/REFERENCE.md, 'Staircase'). Two heard replies in a row lower the level by `step`, one unheard raises it, and either restarts the
+ * count; levels stop at 0 and 120. Trials count from 0; on each trial that stands in `lapses`, in any order, the reply is reversed, once. An
+ * entry that stands there again, or is no trial, changes nothing. The call takes time in proportion to `trials` and `lapses_len` together,
+ * and no player. Refused: 22. */
+netthimble_tracked netthimble_staircase(uint64_t start, uint64_t threshold, uint64_t step, size_t trials, const size_t *lapses, size_t lapses_len);
 
 /* ---- a sample's value and its bits */
 

@@ -9,6 +9,7 @@
     block.position, block.ended    # seconds of the clip; whether the player has ended
     player.block(0.01, cents=-50)  # the next block, a quarter tone lower
     player.preview(0.02)           # what the block at 0.02 would be; the player stays
+    netthimble.staircase(60, 42, 4, 30).levels  # a two-down one-up staircase, tried on a simulated listener
 
 A wrong type is a TypeError that names the argument. A value that the library refuses raises Refused, a ValueError with the number of the
 table (docs/REFERENCE.md, 'Refusals'), and changes nothing.
@@ -17,7 +18,8 @@ from .binding import FRAMES, NEVER
 from .clips import Clip, load, load_old
 from .errors import WORDS, Refused
 from .players import Block, Player, factor
+from .staircase import Track, staircase
 from .tolerances import Tolerances
 
 __version__ = "1.2.0"
-__all__ = ["FRAMES", "NEVER", "WORDS", "Block", "Clip", "Player", "Refused", "Tolerances", "factor", "load", "load_old"]
+__all__ = ["FRAMES", "NEVER", "WORDS", "Block", "Clip", "Player", "Refused", "Tolerances", "Track", "factor", "load", "load_old", "staircase"]

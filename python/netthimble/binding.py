@@ -7,7 +7,7 @@ from __future__ import annotations
 import ctypes
 import os
 from array import array
-from ctypes import POINTER, c_bool, c_double, c_float, c_int32, c_size_t, c_uint8, c_uint32
+from ctypes import POINTER, c_bool, c_double, c_float, c_int32, c_size_t, c_uint8, c_uint32, c_uint64
 from pathlib import Path
 from typing import Any, Dict, List, Optional, Tuple
 
@@ -17,6 +17,8 @@ FRAMES = 128  # frames of a block
 NEVER = 1.7976931348623157e308  # the largest double: a duration that is none
 CHANNELS = 32  # the most channels
 OUT = CHANNELS * FRAMES  # the words of a block's output
+TRIALS = 1000  # the places of a staircase's track
+U64_HIGH = 2**64 - 1  # the largest whole number of C
 
 # ---- the records
 
@@ -105,6 +107,17 @@ class Count(ctypes.Structure):
     _fields_ = [("count", c_size_t), ("refusal", c_uint32)]
 
 
+class TrackRecord(ctypes.Structure):
+    levels: List[int]
+    heard: List[bool]
+    reversals: int
+    _fields_ = [("levels", c_uint8 * TRIALS), ("heard", c_bool * TRIALS), ("reversals", c_size_t)]
+
+
+class Tracked(ctypes.Structure):
+    _fields_ = [("track", TrackRecord), ("refusal", c_uint32)]
+
+
 # ---- the calls: what each answers, and what it is handed
 
 _WORDS, _BYTES, _PLAYER = POINTER(c_uint32), POINTER(c_uint8), POINTER(PlayerRecord)
@@ -134,7 +147,7 @@ SHORT: Dict[str, Tuple[Any, List[Any]]] = {
     "clip_length": (Count, [Shape, c_size_t, c_uint32]),
 }
 
-# These take as long as a clip is: other threads go on meanwhile.
+# These take as long as a clip, or a list, is: other threads go on meanwhile.
 LONG: Dict[str, Tuple[Any, List[Any]]] = {
     "convert_with": (Shaped, [Shape, _WORDS, c_size_t, c_float, TolerancesRecord, _WORDS, c_size_t]),
     "clip_shape": (Shaped, [_BYTES, c_size_t]),
@@ -142,6 +155,7 @@ LONG: Dict[str, Tuple[Any, List[Any]]] = {
     "clip_with_onset": (ShapedWithOnset, [_BYTES, c_size_t]),
     "clip_frames_with_onset": (c_uint32, [_BYTES, c_size_t, _WORDS, c_size_t]),
     "clip_write": (c_uint32, [Shape, c_uint32, _WORDS, c_size_t, _BYTES, c_size_t]),
+    "staircase": (Tracked, [c_uint64, c_uint64, c_uint64, c_size_t, POINTER(c_size_t), c_size_t]),
 }
 
 

@@ -4,7 +4,7 @@
 #include <pthread.h>
 #include "check.h"
 
-enum { ROOM = 1 << 18, OF_A_BLOCK = 16384, OF_ANOTHER = 2048, PAINT = 0xA5, CLIP = 32 * 300 };
+enum { ROOM = 1 << 18, OF_A_BLOCK = 16384, OF_A_STAIRCASE = 8192, OF_ANOTHER = 2048, PAINT = 0xA5, CLIP = 32 * 300 };
 
 static netthimble_player player, loaded;
 static netthimble_tolerances tolerances;
@@ -107,6 +107,15 @@ static void conversions(void) {
     CHECK(netthimble_convert_with(s, clip, CLIP, 48000.0f, tolerances, other, len).refusal == 0);
 }
 
+static void staircase(void) {
+    static const size_t lapses[] = {4, 4, 1000};
+    static netthimble_tracked t;
+    t = netthimble_staircase(60, 42, 4, 1000, lapses, 3);
+    CHECK(t.refusal == 0);
+    t = netthimble_staircase(60, 42, 0, 1000, lapses, 3);
+    CHECK(t.refusal == NETTHIMBLE_STAIRCASE);
+}
+
 /* ---- the painted stack */
 
 static void (*made)(void);
@@ -135,13 +144,19 @@ static size_t depth(void (*call)(void)) {
     return (size_t)(from - (room + low));
 }
 
+static size_t allowed(const char *name) {
+    if (strstr(name, "block") || strstr(name, "preview")) return OF_A_BLOCK;
+    return strstr(name, "staircase") ? OF_A_STAIRCASE : OF_ANOTHER;
+}
+
 int main(void) {
     const struct {
         const char *name;
         void (*call)(void);
     } calls[] = {{"nothing", nothing}, {"sizes", sizes}, {"made", makes}, {"made, lent", makes_lent}, {"messages", tells},
                  {"messages and buffer, lent", tells_lent}, {"block", block}, {"block in cents", block_in_cents}, {"preview", preview},
-                 {"preview in cents", preview_in_cents}, {"clip file", clips}, {"copy, extend, split", buffers}, {"convert", conversions}};
+                 {"preview in cents", preview_in_cents}, {"clip file", clips}, {"copy, extend, split", buffers}, {"convert", conversions},
+                 {"staircase", staircase}};
     for (size_t i = 0; i < CLIP; i++) clip[i] = netthimble_bits((float)(i % 101) / 64.0f - 0.5f);
     options = netthimble_default_options();
     tolerances = options.tolerances;
@@ -151,7 +166,7 @@ int main(void) {
         calls[i].call(); /* once before, so that the linker has found the functions */
         size_t bytes = depth(calls[i].call);
         printf("stack: %s: %zu bytes\n", calls[i].name, bytes);
-        CHECK(bytes < (strstr(calls[i].name, "block") || strstr(calls[i].name, "preview") ? OF_A_BLOCK : OF_ANOTHER));
+        CHECK(bytes < allowed(calls[i].name));
     }
     printf("stack: %d passed, %d failed\n", passed, failed);
     return failed != 0;

@@ -9,6 +9,7 @@ mod clips;
 mod playing;
 mod previewing;
 mod settings;
+mod staircases;
 
 use buffer::{Refusal, Shape};
 use clip::WithOnset;
