@@ -3,7 +3,7 @@ use mathlib.Core.Path.{◌≡◌, refl, sym, ap, ◌∙◌, subst}
 use mathlib.Core.Bool.{Bool, true, false, not, cond, true≢false, false≢true}
 use mathlib.Core.List.{List}
 use Prim.Native.Nat.{ℕ, zero, suc, ◌+◌, ◌*◌, ◌/◌, ◌%◌, ◌≤◌, ◌<◌, min}
-use native.Mathlib.Nat.{le_of_lt, mod-lt, mod-add-mod, mul-suc, mul-zero, zero-mod}
+use native.Mathlib.Nat.{le_of_lt, le_trans, mod-lt, mod-add-mod, mul-suc, mul-zero, zero-mod}
 use native.Mathlib.Omega.{arith}
 use borrow.Author.Tests.{leb-true, leb-false, eqb-false}
 use Rattle.std.proofs.lemmas.Bool.{le-leb, lt-leb}
@@ -84,9 +84,9 @@ counts_at n channels l false s k = record {
     before : (x : ℕ) → min x l < l → min x l ≡ x
     before x h = omega arith
 
-    bits : (channel : List ℕ) (i : ℕ) → length channel ≡ l → (b : Bool) → leb l (min (n * k) l) ≡ b
+    bits : (channel : List ℕ) (i : ℕ) → length channel ≤ l → (b : Bool) → leb l (min (n * k) l) ≡ b
         → cond b 0 (get_or channel (min (n * k) l + i) 0) ≡ get_or channel (n * k + i) 0
-    bits channel i full true e = sym (get_or-eq_default channel 0 (rw full (past (n * k) i (leb-true l (min (n * k) l) e))))
+    bits channel i full true e = sym (get_or-eq_default channel 0 (le_trans full (past (n * k) i (leb-true l (min (n * k) l) e))))
     bits channel i full false e = ap (λ (x : ℕ). get_or channel (x + i) 0) (before (n * k) (leb-false l (min (n * k) l) e))
 
     same : (x : ℕ) (b : Bool) → leb l x ≡ b → leb l (min x l) ≡ leb l x

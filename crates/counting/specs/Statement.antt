@@ -1,6 +1,6 @@
 -- docs/REFERENCE.md, 'Counting player': what a counter plays in each of its blocks, and when it has ended, as one claim for every block
 -- length and every clip. Definitions only.
-use Rattle.std.specs.Prelude.{◌≡◌, Bool, true, false, List, ℕ, zero, suc, ◌+◌, ◌*◌, ◌/◌, ◌%◌, ◌<◌, leb, length, get_or, Ok}
+use Rattle.std.specs.Prelude.{◌≡◌, Bool, true, false, List, ℕ, zero, suc, ◌+◌, ◌*◌, ◌/◌, ◌%◌, ◌≤◌, ◌<◌, leb, length, get_or, Ok}
 use Rattle.counting.specs.Counting.{made, has_ended, sample, report}
 use Rattle.counting.specs.declared.Counter.{Counter}
 
@@ -14,7 +14,7 @@ pub record Counts (n l : ℕ) (looping : Bool) (k : ℕ) (c : Counter) : Type 0 
   pub looped : looping ≡ true → (channel : List ℕ) (i : ℕ) → sample c channel i ≡ get_or channel ((n * k + i) % l) 0
   pub never_ends : looping ≡ true → has_ended c ≡ false
   -- past the last frame of a channel it is zero
-  pub plain : looping ≡ false → (channel : List ℕ) (i : ℕ) → length channel ≡ l → sample c channel i ≡ get_or channel (n * k + i) 0
+  pub plain : looping ≡ false → (channel : List ℕ) (i : ℕ) → length channel ≤ l → sample c channel i ≡ get_or channel (n * k + i) 0
   pub ends : looping ≡ false → has_ended c ≡ leb l (n * k)
 
 pub record TheCounter : Type 0 where
