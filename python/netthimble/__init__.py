@@ -9,15 +9,17 @@
     block.position, block.ended    # seconds of the clip; whether the player has ended
     player.block(0.01, cents=-50)  # the next block, a quarter tone lower
     player.preview(0.02)           # what the block at 0.02 would be; the player stays
+    netthimble.Counter(clip).block()  # the first block by counting frames, at the clip's own rate
 
 A wrong type is a TypeError that names the argument. A value that the library refuses raises Refused, a ValueError with the number of the
 table (docs/REFERENCE.md, 'Refusals'), and changes nothing.
 The library is target/c/libnetthimble.so of this repository, or the file that the environment variable NETTHIMBLE_LIBRARY names."""
 from .binding import FRAMES, NEVER
 from .clips import Clip, load, load_old
+from .counting import CountedBlock, Counter
 from .errors import WORDS, Refused
 from .players import Block, Player, factor
 from .tolerances import Tolerances
 
 __version__ = "1.2.0"
-__all__ = ["FRAMES", "NEVER", "WORDS", "Block", "Clip", "Player", "Refused", "Tolerances", "factor", "load", "load_old"]
+__all__ = ["FRAMES", "NEVER", "WORDS", "Block", "Clip", "CountedBlock", "Counter", "Player", "Refused", "Tolerances", "factor", "load", "load_old"]

@@ -88,7 +88,4 @@ instances = record {
     first_is = refl;
     counted_is = refl;
   };
-  fifth = refl;
-  fourth = refl;
-  never_looped = refl;
 }

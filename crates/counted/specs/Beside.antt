@@ -1,8 +1,9 @@
 -- The counting player beside the first one (docs/REFERENCE.md, 'Counting player'): one claim about the lists of calls of the long run in which
--- no stop is sent. Definitions only.
+-- no stop is sent. Definitions, and fits by hand.
 use Rattle.std.specs.Prelude.{◌≡◌, Bool, true, false, not, ◌&&◌, ◌||◌, List, [], ◌∷◌, ◌++◌, ℕ, suc, ◌+◌, ◌*◌, ◌%◌, ◌<◌, eqb, T, length, get_or, Float, Result, Ok, Err, Option, None, Some}
 use Rattle.std.specs.Float.{binary32}
 use Rattle.std.specs.Float.Ieee.{fits}
+use Rattle.std.proofs.Math.Path.{refl}
 use Rattle.buffer.specs.Limits.{valid_rate}
 use Rattle.buffer.specs.declared.refusals.Refusal.{Refusal}
 use Rattle.player.specs.Block.{rendered}
@@ -58,6 +59,16 @@ keep_alive_of e = keep_alive_by e.before e.call
 -- an exact fit: unlooped, k blocks hold the clip's l frames, and not a sample more
 abbrev pub is_fit : Bool → ℕ → ℕ → Bool
 is_fit looped l k = not looped && eqb l (128 * k)
+
+-- by hand: 640 frames are five blocks, and 128 are one; looped there is no fit
+fit_by_hand : is_fit false 640 5 ≡ true
+fit_by_hand = refl
+
+one_by_hand : is_fit false 128 1 ≡ true
+one_by_hand = refl
+
+looped_by_hand : is_fit true 640 5 ≡ false
+looped_by_hand = refl
 
 -- accepted block e, which k others precede, and the block of the counter c
 pub record Beside (looped : Bool) (l k : ℕ) (c : Counter) (e : Event) : Type 0 where

@@ -12,7 +12,7 @@ use Rattle.counting.specs.declared.Counted.{Counted}
 use Rattle.claims.specs.Calls.{Call, buffer, block, all_typed, Event, after, channels_of, is_ended, opening, playing, stop_in, gathered}
 use Rattle.claims.specs.LongRun.{Premises}
 use Rattle.claims.specs.Instances.{rate, start, tick, tock, looped_calls, plain_calls, all_heard}
-use Rattle.counted.specs.Beside.{counted_by, left_by, counted_output, keep_alive_of, is_fit, taken}
+use Rattle.counted.specs.Beside.{counted_by, left_by, counted_output, keep_alive_of, taken}
 
 -- ---- two channels of l frames, and blocks at these times
 abbrev pub frames : ℕ → List ℕ
@@ -103,7 +103,3 @@ pub record Instances : Type 0 where
   -- 128 frames, one block exactly: both end with it
   pub fit_at_once : (options : PlayerOptions) → Both options (calls_at 128 two_times) (counter_of 2 128 false) (ends 2 ∷ over ∷ [])
       (ends 2 ∷ over ∷ [])
-  -- the fits
-  pub fifth : is_fit false 640 5 ≡ true
-  pub fourth : is_fit false 640 4 ≡ false
-  pub never_looped : is_fit true 640 5 ≡ false

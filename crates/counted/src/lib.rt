@@ -1,6 +1,6 @@
-//! The counting player beside the first one, over every list of calls of the long run (docs/REFERENCE.md, 'Counting
-//! player'). Each function here only carries its contract, which is a statement about the definitions of the crates
-//! below.
+//! The counting player beside the first one, over every list of calls of the long run
+//! (docs/REFERENCE.md, 'Counting player'). Each function here only carries its contract, which is a statement about
+//! the definitions of the crates below.
 #![tactic(auto)]
 
 ghost use Rattle.counted.specs.Beside.{CountsBeside};
