@@ -19,7 +19,11 @@ use Rattle.counting.specs.Counting as counting
 use Rattle.claims.specs.Calls.{Call, all_typed, accepts, next, accepted, opening, playing, Clip, Started, clip_in, start_in, stop_in, switch_in, point_in, gathered}
 use Rattle.claims.specs.LongRun.{starts_in_time, OnlyBlocks}
 use Rattle.claims.specs.Instances as claimed
-use Rattle.claims.specs.Instances.{rate, looped_calls, plain_calls}
+use Rattle.claims.specs.Instances.{rate, looped_calls, plain_calls, longer_calls, previewed_calls}
+use Rattle.claims.specs.Longer.{replaced}
+use Rattle.cents.specs.Cents.{checked_cents, rendered_cents}
+use Rattle.detune.specs.Table.{entries}
+use Rattle.detune.specs.Detune.{octaves, above, bad_cents, factor_of}
 use Rattle.counted.specs.Beside.{taken}
 use Rattle.counted.specs.Instances.{frames, calls_at, two_times, seven_times, Met, Instances}
 
@@ -58,7 +62,7 @@ two_channels : ℕ → Clip
 two_channels l = record { channels = 2; frames = l; rate = rate; samples = frames l }
 
 pub instances : Instances
-unfolding accepted accepts next opening playing handled buffered on_start on_stop on_loop bad_time clamped clamped_start clamped_end fresh_with valid_rate valid_shape duration
+unfolding replaced checked_cents rendered_cents bad_cents factor_of octaves above entries accepted accepts next opening playing handled buffered on_start on_stop on_loop bad_time clamped clamped_start clamped_end fresh_with valid_rate valid_shape duration
     rendered checked bad_block_time bad_rate bad_samples plan is_aligned start_at aligned_plan has_ended turns_over output written put table
     first_frame ends_within aligned_sample played next_frame last_wrap aligned_position dt block_seconds block_end idle
     counting.has_ended counting.frame_at counting.sample counting.counted_on counting.report counting.checked counting.rendered counting.output two_channels
@@ -76,6 +80,16 @@ instances = record {
   };
   looped_heard = λ options. refl;
   plain_heard = λ options. refl;
+  in_cents = λ options. record {
+    met = met options claimed.the_clip (replaced (fresh_with rate options) longer_calls) refl tt refl refl tt (lit≤ tt) refl (lit≤ tt) refl ((refl, refl, refl), ((refl, refl, refl), tt));
+    first_is = refl;
+    counted_is = refl;
+  };
+  previewed = λ options. record {
+    met = met options claimed.the_clip (replaced (fresh_with rate options) previewed_calls) refl tt refl refl tt (lit≤ tt) refl (lit≤ tt) refl ((refl, refl, refl), ((refl, refl, refl), tt));
+    first_is = refl;
+    counted_is = refl;
+  };
   fit_later = λ options. record {
     met =
         met options (two_channels 640) (calls_at 640 seven_times) refl tt refl refl tt (lit≤ tt) refl (lit≤ tt) refl

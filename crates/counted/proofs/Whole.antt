@@ -13,6 +13,7 @@ use Rattle.std.proofs.lemmas.Bool.{le-leb}
 use Rattle.std.specs.Prelude.{Ok, Some}
 use Rattle.buffer.specs.Limits.{valid_rate, valid_shape}
 use Rattle.buffer.specs.Channels.{channel}
+use Rattle.detune.specs.Statement.{Exact}
 use Rattle.player.specs.Record.{fresh_with}
 use Rattle.player.specs.declared.Player.{Player}
 use Rattle.player.specs.declared.PlayerOptions.{PlayerOptions}
@@ -23,8 +24,10 @@ use Rattle.counting.specs.declared.Counter.{Counter}
 use Rattle.claims.specs.Calls.{Call, all_typed, Event, after, after_all, is_ended, opening, playing, stop_in, switch_in, gathered}
 use Rattle.claims.specs.LongRun.{Premises, Block, is_before, end_of, switched_on, LongRun}
 use Rattle.claims.specs.LoopSwitch.{LoopSwitch}
+use Rattle.claims.specs.Longer.{replaced}
 use Rattle.claims.proofs.Begin.{sound}
 use Rattle.claims.proofs.Opening.{Sound}
+use Rattle.claims.proofs.Longer.{all_typed_lem}
 use Rattle.claims.proofs.Whole.{begins_of}
 use Rattle.counted.specs.Beside.{counted_by, counted_output, counted_all, is_fit, Beside, AllBeside, CountsBeside, taken}
 use Rattle.counted.proofs.Lists.{after_both, one_more, length_more}
@@ -157,8 +160,10 @@ never_fits false l k h = go (eqb l (128 * k)) refl
         absurd (false≢true (sym (ap not (eq-eqb (l % 128) 0 whole)) ∙ h))
     go false e = refl
 
-pub counts_beside : LongRun → LoopSwitch → TheCounter → CountsBeside
-counts_beside run switch counts = record {
+pub counts_beside : LongRun → LoopSwitch → TheCounter → Exact → CountsBeside
+counts_beside run switch counts exact = record {
   beside = λ rate options f ok calls ty h none. all_beside run switch counts rate options f ok calls ty h none;
+  longer = λ rate options f ok calls ty h none.
+      all_beside run switch counts rate options f ok (replaced (fresh_with rate options) calls) (all_typed_lem exact.held (fresh_with rate options) calls ty) h none;
   no_fit = never_fits;
 }

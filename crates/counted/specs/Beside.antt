@@ -16,6 +16,7 @@ use Rattle.counting.specs.declared.Counter.{Counter}
 use Rattle.counting.specs.declared.Counted.{Counted}
 use Rattle.claims.specs.Calls.{Call, buffer, message, block, all_typed, Event, accepted, after, channels_of, sample_of, is_ended, opening, playing, Clip, stop_in, switch_in, gathered}
 use Rattle.claims.specs.LongRun.{Premises, switched_on}
+use Rattle.claims.specs.Longer.{LongerCall, all_typed_longer, replaced}
 
 -- ---- the counter's calls: each accepted block is one of its blocks too, lent the same output and samples; it gets no other call
 abbrev pub counted_by : Counter → Call → Option (Result Counted Refusal)
@@ -88,14 +89,26 @@ pub record AllBeside (looped : Bool) (clip : Clip) (es : List Event) : Type 0 wh
       → Beside looped clip.frames (length front) (counted_all counter front) e
 
 -- ---- the claim
--- the accepted calls of a list, on a fresh player
+-- the accepted calls of a list, on a fresh player; and of a longer one, where each block in cents is the block with its factor, and previews
+-- are left out
 abbrev pub taken : Float → PlayerOptions → List Call → List Event
 taken rate options calls = accepted (fresh_with rate options) calls
+
+abbrev pub taken_longer : Float → PlayerOptions → List LongerCall → List Event
+taken_longer rate options calls = taken rate options (replaced (fresh_with rate options) calls)
+
+-- beside each block of these accepted calls
+abbrev pub BesideAll : (es : List Event) → Clip → Type 0
+BesideAll es clip = AllBeside (switched_on (gathered switch_in (opening es))) clip (playing es)
 
 pub record CountsBeside : Type 0 where
   -- under the premises of the long run, where no stop is sent
   pub beside : (rate : Float) (options : PlayerOptions) → T (fits binary32 rate) → T (valid_rate rate) → (calls : List Call)
       → T (all_typed calls) → (h : Premises rate (taken rate options calls)) → gathered stop_in (opening (taken rate options calls)) ≡ []
-      → AllBeside (switched_on (gathered switch_in (opening (taken rate options calls)))) h.clip (playing (taken rate options calls))
+      → BesideAll (taken rate options calls) h.clip
+  -- with blocks in cents and previews beside the other calls
+  pub longer : (rate : Float) (options : PlayerOptions) → T (fits binary32 rate) → T (valid_rate rate) → (calls : List LongerCall)
+      → T (all_typed_longer calls) → (h : Premises rate (taken_longer rate options calls))
+      → gathered stop_in (opening (taken_longer rate options calls)) ≡ [] → BesideAll (taken_longer rate options calls) h.clip
   -- looped, and with a length that is no multiple of 128, there is no fit: all is equal in every block
   pub no_fit : (looped : Bool) (l k : ℕ) → (looped || not (eqb (l % 128) 0)) ≡ true → is_fit looped l k ≡ false

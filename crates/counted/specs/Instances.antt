@@ -6,12 +6,14 @@ use Rattle.std.specs.Float.Ieee.{fits}
 use Rattle.buffer.specs.Limits.{valid_rate}
 use Rattle.buffer.specs.declared.refusals.Refusal.{Refusal}
 use Rattle.seconds.specs.Seconds.{float_zero, one}
+use Rattle.player.specs.Record.{fresh_with}
 use Rattle.player.specs.declared.PlayerOptions.{PlayerOptions}
 use Rattle.counting.specs.declared.Counter.{Counter}
 use Rattle.counting.specs.declared.Counted.{Counted}
 use Rattle.claims.specs.Calls.{Call, buffer, block, all_typed, Event, after, channels_of, is_ended, opening, playing, stop_in, gathered}
 use Rattle.claims.specs.LongRun.{Premises}
-use Rattle.claims.specs.Instances.{rate, start, tick, tock, looped_calls, plain_calls, all_heard}
+use Rattle.claims.specs.Instances.{rate, start, tick, tock, looped_calls, plain_calls, longer_calls, previewed_calls, all_heard}
+use Rattle.claims.specs.Longer.{replaced}
 use Rattle.counted.specs.Beside.{counted_by, left_by, counted_output, keep_alive_of, taken}
 
 -- ---- two channels of l frames, and blocks at these times
@@ -96,6 +98,11 @@ pub record Instances : Type 0 where
       ≡ all_heard (playing (taken rate options looped_calls))
   pub plain_heard : (options : PlayerOptions) → counted_heard (counter_of 1 3 false) (playing (taken rate options plain_calls))
       ≡ all_heard (playing (taken rate options plain_calls))
+  -- with blocks in cents and previews, which the counter passes over
+  pub in_cents : (options : PlayerOptions) → Both options (replaced (fresh_with rate options) longer_calls) (counter_of 1 3 true)
+      (plays 1 ∷ plays 1 ∷ []) (plays 1 ∷ plays 1 ∷ [])
+  pub previewed : (options : PlayerOptions) → Both options (replaced (fresh_with rate options) previewed_calls) (counter_of 1 3 false)
+      (ends 1 ∷ over ∷ []) (ends 1 ∷ over ∷ [])
   -- 640 frames, five blocks exactly: the counter ends with the fifth, the first player with the sixth
   pub fit_later : (options : PlayerOptions) → Both options (calls_at 640 seven_times) (counter_of 2 640 false)
       (plays 2 ∷ plays 2 ∷ plays 2 ∷ plays 2 ∷ plays 2 ∷ ends 2 ∷ over ∷ [])

@@ -15,6 +15,7 @@ pub fn counts_beside()
     claims::long_run();
     claims::loop_switch();
     counting::the_counter();
+    detune::factor_is_exact();
 }
 
 /// Lists of calls that meet the premises of `counts_beside`, and what both players answer in them: looped, unlooped

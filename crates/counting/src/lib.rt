@@ -120,6 +120,7 @@ impl Counter {
             ..self
         }
     }
+
     // A block that is not refused.
     #[tactic(auto, using(crate::proofs::Frames::silence), unfolding(crate::specs::Counting::report))]
     fn count(self, out: &mut [u32; 4096], channels: Channels) -> Counted
