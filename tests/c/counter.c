@@ -32,7 +32,8 @@ static void record(void) {
         for (size_t i = 0; i < 5; i++) CHECK(written(field[i], size[i]));
         CHECK(untouched(sizeof made));
         memcpy(&made, one, sizeof made);
-        CHECK(channels == 2 ? made.refusal == 0 && alike(made.counter, counter(2, 300, 0, true)) : made.refusal == 1 && alike(made.counter, counter(0, 0, 0, false)));
+        CHECK(made.refusal == (channels == 2 ? 0 : 1));
+        CHECK(alike(made.counter, channels == 2 ? counter(2, 300, 0, true) : counter(0, 0, 0, false)));
     }
     CHECK(netthimble_counter_size() == sizeof(netthimble_counter) && netthimble_fits());
 }

@@ -1,5 +1,5 @@
--- The counting player beside the first one (docs/REFERENCE.md, 'Counting player'): one claim about the lists of calls of the long run in which
--- no stop is sent. Definitions, and fits by hand.
+-- The counting player beside the first one (docs/REFERENCE.md, 'Counting player'): one claim about the lists of calls of the long run in
+-- which no stop is sent. Definitions, and fits by hand.
 use Rattle.std.specs.Prelude.{◌≡◌, Bool, true, false, not, ◌&&◌, ◌||◌, List, [], ◌∷◌, ◌++◌, ℕ, suc, ◌+◌, ◌*◌, ◌%◌, ◌<◌, eqb, T, length, get_or, Float, Result, Ok, Err, Option, None, Some}
 use Rattle.std.specs.Float.{binary32}
 use Rattle.std.specs.Float.Ieee.{fits}
@@ -89,8 +89,8 @@ pub record AllBeside (looped : Bool) (clip : Clip) (es : List Event) : Type 0 wh
       → Beside looped clip.frames (length front) (counted_all counter front) e
 
 -- ---- the claim
--- the accepted calls of a list, on a fresh player; and of a longer one, where each block in cents is the block with its factor, and previews
--- are left out
+-- the accepted calls of a list, on a fresh player; and of a longer one, where each block in cents is the block with its factor, and
+-- previews are left out
 abbrev pub taken : Float → PlayerOptions → List Call → List Event
 taken rate options calls = accepted (fresh_with rate options) calls
 

@@ -1,5 +1,6 @@
--- Lists of calls that meet the premises, and what each of the two players answers in them (docs/REFERENCE.md, 'Counting player'): looped, with
--- a length that is no multiple of 128, and the two ways in which an exact fit ends the first player. Definitions only.
+-- Lists of calls that meet the premises, and what each of the two players answers in them (docs/REFERENCE.md, 'Counting player'): looped,
+-- with a length that is no multiple of 128, with blocks in cents and previews, and the two ways in which an exact fit ends the first player.
+-- Definitions only.
 use Rattle.std.specs.Prelude.{◌≡◌, Bool, true, false, List, [], ◌∷◌, ℕ, ◌*◌, T, negsuc, map, take, replicate, Float, Result, Ok, Err, Option, None, Some}
 use Rattle.std.specs.Float.{fin, binary32}
 use Rattle.std.specs.Float.Ieee.{fits}

@@ -125,8 +125,9 @@ impl Counter {
     #[tactic(auto, using(crate::proofs::Frames::silence), unfolding(crate::specs::Counting::report))]
     fn count(self, out: &mut [u32; 4096], channels: Channels) -> Counted
         requires { (channels.count ≡ self.channels) × (channels.frames ≡ self.frames) }
-        ensures { (result ≡ report 128 self)
-            × (out.new ≡ written 128 (sample self) self.frames channels.entry.samples.now out.old (report 128 self).channels) }
+        ensures { let answer = report 128 self in
+            (result ≡ answer)
+            × (out.new ≡ written 128 (sample self) self.frames channels.entry.samples.now out.old answer.channels) }
     {
         if self.has_ended() {
             fill_silence(out);
