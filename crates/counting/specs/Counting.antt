@@ -21,15 +21,15 @@ made channels frames looping =
 unfoldable pub has_ended : Counter → Bool
 has_ended c = leb c.frames c.next
 
--- the frame i after the one that comes next: looped, frame 0 follows the last one
+-- the frame of sample i: looped, the remainder by L
 unfoldable pub frame_at : Counter → ℕ → ℕ
 frame_at c i = cond c.looping ((c.next + i) % c.frames) (c.next + i)
 
--- sample i of a channel: zero past its last frame, and once ended
+-- sample i in a channel: zero past its last frame, and once ended
 unfoldable pub sample : Counter → List ℕ → ℕ → ℕ
 sample c channel i = cond (has_ended c) 0 (get_or channel (frame_at c i) 0)
 
--- after a block of n samples the frame n further on comes next; unlooped at most frame L, where it has ended
+-- after a block the frame that sample n would have comes next; unlooped, at most L
 unfoldable pub counted_on : ℕ → Counter → Counter
 counted_on n c = record { channels = c.channels; frames = c.frames; next = min (frame_at c n) c.frames; looping = c.looping }
 
