@@ -459,6 +459,60 @@ netthimble_shaped netthimble_convert_with(netthimble_shape shape, const uint32_t
  * and no player. Refused: 22. */
 netthimble_tracked netthimble_staircase(uint64_t start, uint64_t threshold, uint64_t step, size_t trials, const size_t *lapses, size_t lapses_len);
 
+
+/* ---- the counting player: a second player, which keeps the frame that comes next and neither times nor a position in seconds. It plays a clip
+ * from its first frame on at its own rate, as a player does that was started in time and gets no other message than one loop switch before its
+ * first block (docs/RULE.md, 'The rule in executable form'; what is proved of the two beside each other: docs/REFERENCE.md, 'Counting player').
+ * So a program can hold one against the other. A counter belongs to one thread at a time, and is copied by assignment. */
+
+/* A counter; netthimble_counter_new makes one. In memory that is lent to a block the bool is 0 or 1. */
+typedef struct {
+    size_t channels; /* the clip's */
+    size_t frames;   /* the clip's, L */
+    size_t next;     /* the frame that comes next, from 0; at L the counter has ended */
+    bool looping;
+} netthimble_counter;
+
+/* A counter that is made. */
+typedef struct {
+    netthimble_counter counter;
+    uint32_t refusal;
+} netthimble_counter_made;
+
+/* What a block of a counter answers. `channels` is how many are written: the clip's, or one of zeros where the counter had ended before the
+ * block, in which `keep_alive` is false. `ended` is true if it has ended with this block or before it. */
+typedef struct {
+    size_t channels;
+    uint32_t refusal;
+    bool keep_alive;
+    bool ended;
+} netthimble_counted;
+
+NETTHIMBLE_HOLDS(counter_size, sizeof(netthimble_counter) == 32);
+NETTHIMBLE_AT(counter, channels, channels, 0);
+NETTHIMBLE_AT(counter, frames, frames, 8);
+NETTHIMBLE_AT(counter, next, next, 16);
+NETTHIMBLE_AT(counter, looping, looping, 24);
+NETTHIMBLE_HOLDS(counter_made_size, sizeof(netthimble_counter_made) == 40);
+NETTHIMBLE_AT(counter_made, refusal, refusal, 32);
+NETTHIMBLE_HOLDS(counted_size, sizeof(netthimble_counted) == 16);
+NETTHIMBLE_AT(counted, channels, channels, 0);
+NETTHIMBLE_AT(counted, refusal, refusal, 8);
+NETTHIMBLE_AT(counted, keep_alive, keep_alive, 12);
+NETTHIMBLE_AT(counted, ended, ended, 13);
+
+/* The bytes of a counter's record in the library: 32, as here. */
+size_t netthimble_counter_size(void);
+
+/* A counter before its first block, of a clip of `channels` channels of `frames` frames each; `looping` says whether frame 0 follows the last
+ * one. Refused: 1 (channels not 1 to 32, or frames over 16,777,216), 12 (no frames); the counter is then zeros, and every block of it is refused. */
+netthimble_counter_made netthimble_counter_new(size_t channels, size_t frames, bool looping);
+
+/* Plays the next block into `out`, which is 4,096 long; `samples` are the clip's. In each answered channel, looped, sample i of block n is frame
+ * (128 n + i) mod L; else it is frame 128 n + i below L, and zero from there on, and after L / 128 blocks, rounded up, the counter has ended.
+ * Refused: 8, 1; *counter and `out` are then as they were. */
+netthimble_counted netthimble_counter_process(netthimble_counter *counter, uint32_t *out, size_t out_len, const uint32_t *samples, size_t samples_len);
+
 /* ---- a sample's value and its bits */
 
 static inline float netthimble_float(uint32_t bits) {
@@ -475,7 +529,8 @@ static inline uint32_t netthimble_bits(float value) {
 
 /* Whether this header and the library that is linked agree on the records' sizes. To be asked once, before all else. */
 static inline bool netthimble_fits(void) {
-    return netthimble_player_size() == sizeof(netthimble_player) && netthimble_options_size() == sizeof(netthimble_options);
+    return netthimble_player_size() == sizeof(netthimble_player) && netthimble_options_size() == sizeof(netthimble_options)
+        && netthimble_counter_size() == sizeof(netthimble_counter);
 }
 
 /* Whether this thread rounds to nearest and keeps subnormal numbers, as the proofs take for granted. To be asked once in each thread

@@ -2,7 +2,8 @@
    Blocks are called from Rattle (crates/player_c), as the Rust's from Rust, and once more through the C library: names with `-c`, and
    with `-cents` where the call is the one in cents: at 0 of them, and below at others. `-preview` are previews of the
    players that stand before the first 256 blocks of a run, and `-shown` the block call on copies of them. `-ahead` is a preview
-   before each block of a run, and `-twin` what a block takes in its place: the block call of a second player beside the first. */
+   before each block of a run, and `-twin` what a block takes in its place: the block call of a second player beside the first. `-count` are
+   blocks of a counting player. */
 #include <math.h>
 #include "measure.h"
 
@@ -93,6 +94,16 @@ static double from_c(size_t channels, size_t frames, bool looped, float rate, co
     return blocks_of(begun(channels, frames, looped, words), words, channels * frames, rate, 0, in_cents);
 }
 
+/* Blocks of a counting player through the C library. */
+static double counted(size_t channels, size_t frames, bool looped, const uint32_t *words) {
+    netthimble_counter_made made = netthimble_counter_new(channels, frames, looped);
+    netthimble_counter counter = made.counter;
+    must(made.refusal);
+    double t = now();
+    for (size_t n = 0; n < BLOCKS; n++) must(netthimble_counter_process(&counter, out, 4096, words, channels * frames).refusal);
+    return (now() - t) / BLOCKS;
+}
+
 /* One channel, looped, at other cents; or silent, since its start lies past every block. */
 static void detuned(const char *name, bool silent, float rate, int32_t cents) {
     size_t frames = 1000;
@@ -120,12 +131,14 @@ static void detuned(const char *name, bool silent, float rate, int32_t cents) {
 static void block(const char *name, size_t channels, bool looped, float rate, bool noise) {
     size_t frames = looped ? 1000 : 128 * (BLOCKS + 2);
     uint32_t *words = frames_of(channels * frames, noise);
-    double rattle = 1e300, c = 1e300, cents = 1e300;
+    double rattle = 1e300, c = 1e300, cents = 1e300, count = 1e300;
     for (int turn = 0; turn < 3; turn++) {
         rattle = fmin(rattle, from_rattle(channels, frames, looped, rate, words));
         c = fmin(c, from_c(channels, frames, looped, rate, words, false));
         cents = fmin(cents, from_c(channels, frames, looped, rate, words, true));
+        if (rate == 1.0f) count = fmin(count, counted(channels, frames, looped, words));
     }
+    if (rate == 1.0f) printf("%s-%zu-count %.1f\n", name, channels, count);
     printf("%s-%zu %.1f\n%s-%zu-c %.1f\n%s-%zu-cents %.1f\n", name, channels, rattle, name, channels, c, name, channels, cents);
     char label[64];
     snprintf(label, sizeof label, "%s-%zu", name, channels);

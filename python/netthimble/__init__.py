@@ -10,16 +10,18 @@
     player.block(0.01, cents=-50)  # the next block, a quarter tone lower
     player.preview(0.02)           # what the block at 0.02 would be; the player stays
     netthimble.staircase(60, 42, 4, 30).levels  # a two-down one-up staircase, tried on a simulated listener
+    netthimble.Counter(clip).block()  # the first block by counting frames, at the clip's own rate
 
 A wrong type is a TypeError that names the argument. A value that the library refuses raises Refused, a ValueError with the number of the
 table (docs/REFERENCE.md, 'Refusals'), and changes nothing.
 The library is target/c/libnetthimble.so of this repository, or the file that the environment variable NETTHIMBLE_LIBRARY names."""
 from .binding import FRAMES, NEVER
 from .clips import Clip, load, load_old
+from .counting import CountedBlock, Counter
 from .errors import WORDS, Refused
 from .players import Block, Player, factor
 from .staircase import Track, staircase
 from .tolerances import Tolerances
 
 __version__ = "1.2.0"
-__all__ = ["FRAMES", "NEVER", "WORDS", "Block", "Clip", "Player", "Refused", "Tolerances", "Track", "factor", "load", "load_old", "staircase"]
+__all__ = ["FRAMES", "NEVER", "WORDS", "Block", "Clip", "CountedBlock", "Counter", "Player", "Refused", "Tolerances", "Track", "factor", "load", "load_old", "staircase"]

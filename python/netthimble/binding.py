@@ -118,6 +118,23 @@ class Tracked(ctypes.Structure):
     _fields_ = [("track", TrackRecord), ("refusal", c_uint32)]
 
 
+
+class CounterRecord(ctypes.Structure):
+    channels: int
+    frames: int
+    next: int
+    looping: bool
+    _fields_ = [("channels", c_size_t), ("frames", c_size_t), ("next", c_size_t), ("looping", c_bool)]
+
+
+class CounterMade(ctypes.Structure):
+    _fields_ = [("counter", CounterRecord), ("refusal", c_uint32)]
+
+
+class CountedRecord(ctypes.Structure):
+    _fields_ = [("channels", c_size_t), ("refusal", c_uint32), ("keep_alive", c_bool), ("ended", c_bool)]
+
+
 # ---- the calls: what each answers, and what it is handed
 
 _WORDS, _BYTES, _PLAYER = POINTER(c_uint32), POINTER(c_uint8), POINTER(PlayerRecord)
@@ -145,6 +162,9 @@ SHORT: Dict[str, Tuple[Any, List[Any]]] = {
     "factor": (Factored, [c_int32]),
     "converted_shape_with": (Shaped, [Shape, c_size_t, c_float, TolerancesRecord]),
     "clip_length": (Count, [Shape, c_size_t, c_uint32]),
+    "counter_size": (c_size_t, []),
+    "counter_new": (CounterMade, [c_size_t, c_size_t, c_bool]),
+    "counter_process": (CountedRecord, [POINTER(CounterRecord), _WORDS, c_size_t, _WORDS, c_size_t]),
 }
 
 # These take as long as a clip, or a list, is: other threads go on meanwhile.
@@ -179,7 +199,7 @@ def _load() -> Dict[str, Any]:
             call.restype, call.argtypes = answer, given
             calls[name] = call
     sizes = calls["player_size"](), calls["options_size"](), array("f").itemsize, array("I").itemsize
-    if sizes != (ctypes.sizeof(PlayerRecord), ctypes.sizeof(Options), 4, 4):
+    if sizes != (ctypes.sizeof(PlayerRecord), ctypes.sizeof(Options), 4, 4) or calls["counter_size"]() != ctypes.sizeof(CounterRecord):
         raise ImportError(f"netthimble: the records of {path} are not those of this package")
     return calls
 

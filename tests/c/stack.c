@@ -79,6 +79,16 @@ static void preview_in_cents(void) {
     CHECK(netthimble_player_preview_cents(&loaded, out, NETTHIMBLE_OUT, clip, CLIP, 1, 0.7f, 1200).refusal == 0);
 }
 
+/* Blocks that play, turn over and are silent. */
+static void counting(void) {
+    netthimble_counter_made looped = netthimble_counter_new(32, 300, true), once = netthimble_counter_new(32, 300, false);
+    for (int n = 0; n < 4; n++) {
+        CHECK(netthimble_counter_process(&looped.counter, out, NETTHIMBLE_OUT, clip, CLIP).refusal == 0);
+        CHECK(netthimble_counter_process(&once.counter, out, NETTHIMBLE_OUT, clip, CLIP).refusal == 0);
+    }
+    CHECK(netthimble_counter_size() == 32);
+}
+
 static void clips(void) {
     netthimble_shape s = clip_shape();
     file_len = netthimble_clip_length(s, CLIP, 7).count;
@@ -155,7 +165,7 @@ int main(void) {
         void (*call)(void);
     } calls[] = {{"nothing", nothing}, {"sizes", sizes}, {"made", makes}, {"made, lent", makes_lent}, {"messages", tells},
                  {"messages and buffer, lent", tells_lent}, {"block", block}, {"block in cents", block_in_cents}, {"preview", preview},
-                 {"preview in cents", preview_in_cents}, {"clip file", clips}, {"copy, extend, split", buffers}, {"convert", conversions},
+                 {"preview in cents", preview_in_cents}, {"counting", counting}, {"clip file", clips}, {"copy, extend, split", buffers}, {"convert", conversions},
                  {"staircase", staircase}};
     for (size_t i = 0; i < CLIP; i++) clip[i] = netthimble_bits((float)(i % 101) / 64.0f - 0.5f);
     options = netthimble_default_options();

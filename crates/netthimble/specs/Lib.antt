@@ -1,3 +1,4 @@
 -- What the calls for C answer.
 pub mod ForC
 pub mod Staircases
+pub mod Counters

@@ -13,6 +13,7 @@ mod refusal;
 
 use buffer::Shape;
 pub use factor::{Factor, GivesFactor};
+pub use output::write_channels;
 use seconds::{BufferSeconds, ContextSeconds};
 use tolerances::Tolerances;
 

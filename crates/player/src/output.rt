@@ -5,13 +5,13 @@ ghost use Rattle.player.specs.Block.{written};
 
 use buffer::Channels;
 
-// Writes each channel into its own part of the output, by a call with the part and the channel. By
-// index: once a part that `chunks_exact_mut` lent is back, a proof knows the output's length and none
-// of its words. Not reshape's `write_parts`, which fills an output to its end: here the words past the
-// last channel stay.
+/// Writes each channel into its own part of the output, by a call with the part and the channel. The
+/// words past the last channel stay.
+// By index: once a part that `chunks_exact_mut` lent is back, a proof knows the output's length and
+// none of its words. Not reshape's `write_parts`, which fills an output to its end.
 #[tactic(auto, using(crate::proofs::Written::turn, buffer::specs::Channels::length_channel), unfolding(crate::specs::Block::written))]
 #[inline(always)]
-pub(crate) fn write_channels<F: Fn(&mut [u32], &[u32])>(
+pub fn write_channels<F: Fn(&mut [u32], &[u32])>(
     out: &mut [u32; 4096],
     channels: Channels,
     write: F,
