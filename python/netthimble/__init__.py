@@ -24,4 +24,7 @@ from .staircase import Track, staircase
 from .tolerances import Tolerances
 
 __version__ = "1.2.0"
-__all__ = ["FRAMES", "NEVER", "WORDS", "Block", "Clip", "CountedBlock", "Counter", "Player", "Refused", "Tolerances", "Track", "factor", "load", "load_old", "staircase"]
+__all__ = [
+    "FRAMES", "NEVER", "WORDS", "Block", "Clip", "CountedBlock", "Counter", "Player",
+    "Refused", "Tolerances", "Track", "factor", "load", "load_old", "staircase",
+]
