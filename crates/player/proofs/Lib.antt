@@ -1,5 +1,6 @@
 -- The laws that the proofs of `player` share.
 pub mod Written
 mod Sampled
+mod Ramped
 mod Limits
 pub mod Refused

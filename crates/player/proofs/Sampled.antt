@@ -1,9 +1,8 @@
 -- A sub-sample block's output by its infos is the output by what each sample plays. Assumes nothing.
-use mathlib.Core.Path.{◌≡◌, refl}
+use mathlib.Core.Path.{◌≡◌, refl, ap}
 use mathlib.Core.List.{List}
-use Prim.Native.Nat.{ℕ, zero, suc, ◌<◌}
-use Rattle.lists.specs.Table.{table_same, get_or_table}
-use Rattle.buffer.specs.Channels.{channel}
+use Prim.Native.Nat.{ℕ, ◌<◌}
+use Rattle.lists.specs.Table.{get_or_table}
 use Rattle.sub_sample.specs.declared.Settings.{Settings}
 use Rattle.sub_sample.specs.declared.Playhead.{Playhead}
 use Rattle.sub_sample.specs.declared.PlaybackInfo.{PlaybackInfo}
@@ -15,14 +14,7 @@ use Rattle.interpolated.specs.Interpolated.{sample_of}
 use Rattle.sub_sample.specs.Infos.{info_in, infos_of, frame_of, fraction_of}
 use Rattle.interpolated.specs.Interpolated.{sample_by}
 use Rattle.player.specs.Block.{written}
-
--- by two functions that agree below the block's length
-written_same : (n : ℕ) (f g : List ℕ → ℕ → ℕ) (frames : ℕ) (samples out : List ℕ) (count : ℕ)
-    → ((l : List ℕ) (i : ℕ) → i < n → f l i ≡ g l i) → written n f frames samples out count ≡ written n g frames samples out count
-unfolding written
-written_same n f g frames samples out zero h = refl
-written_same n f g frames samples out (suc c) h =
-    rw (table_same n (f (channel samples frames c)) (g (channel samples frames c)) (h (channel samples frames c)), written_same n f g frames samples out c h)
+use Rattle.player.proofs.Written.{written_same}
 
 -- what a sample plays is what stands in the arrays for it
 kept : (x : Option PlaybackInfo) → cond (is_some x) (Some (info_of (frame_of x) (fraction_of x))) None ≡ x
@@ -37,7 +29,9 @@ module _ (s : Settings) (h : Playhead) where
       let info = info_in s h in
       rw (get_or_table 128 (λ k. frame_of (info k)) i 0 b, get_or_table 128 (λ k. fraction_of (info k)) i nan b, get_or_table 128 (λ k. is_some (info k)) i false b, kept (info i))
 
-  pub by_infos : (infos : Infos) (frames : ℕ) (samples out : List ℕ) (count : ℕ) → infos ≡ infos_of 128 s h
-      → written 128 (sample_by s infos) frames samples out count
-      ≡ written 128 (λ l i. sample_of s l (info_of_sample s i (head_at s h i))) frames samples out count
-  by_infos infos frames samples out count e = rw e (written_same 128 _ _ frames samples out count sample_by_lem)
+  -- and so what is made of it, as a ramp makes
+  pub by_infos : (g : ℕ → ℕ → ℕ) (infos : Infos) (frames : ℕ) (samples out : List ℕ) (count : ℕ) → infos ≡ infos_of 128 s h
+      → written 128 (λ l i. g i (sample_by s infos l i)) frames samples out count
+      ≡ written 128 (λ l i. g i (sample_of s l (info_of_sample s i (head_at s h i)))) frames samples out count
+  by_infos g infos frames samples out count e =
+      rw e (written_same 128 _ _ frames samples out count (λ l i b. ap (g i) (sample_by_lem l i b)))

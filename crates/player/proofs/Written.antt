@@ -6,7 +6,7 @@ use native.Mathlib.Numerals.{add-one}
 use native.Mathlib.Omega.{arith}
 use lib.ListN.{length, take, drop, replicate}
 use lib.Seq.{length-take-le}
-use Rattle.lists.specs.Table.{table, length_table, replicate_table}
+use Rattle.lists.specs.Table.{table, length_table, replicate_table, table_same}
 use Rattle.lists.specs.Parts.{put, length-put, span, length_part}
 use Rattle.buffer.specs.Channels.{channel}
 use Rattle.player.specs.Block.{written}
@@ -41,3 +41,11 @@ pub turn_of : (sample : List ℕ → ℕ → ℕ) (frames : ℕ) (samples out₀
 turn_of sample frames samples out₀ whole c out part frames_of_c below so_far its back =
     let full : length out ≡ 4096 = rw so_far (length_written sample frames samples out₀ whole c (omega arith)) in
     turn sample frames samples out₀ whole c out part below so_far (rw (back, its, length_part (128 * c) 128 out (omega arith)) refl)
+
+-- by two functions that agree below the block's length
+pub written_same : (n : ℕ) (f g : List ℕ → ℕ → ℕ) (frames : ℕ) (samples out : List ℕ) (count : ℕ)
+    → ((l : List ℕ) (i : ℕ) → i < n → f l i ≡ g l i) → written n f frames samples out count ≡ written n g frames samples out count
+unfolding written
+written_same n f g frames samples out zero h = refl
+written_same n f g frames samples out (suc c) h =
+    rw (table_same n (f (channel samples frames c)) (g (channel samples frames c)) (h (channel samples frames c)), written_same n f g frames samples out c h)

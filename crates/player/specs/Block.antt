@@ -1,4 +1,4 @@
--- docs/REFERENCE.md, 'Order of a block's cases', 'Aligned block', 'Sub-sample block' and 'When a player ends': the block call.
+-- docs/REFERENCE.md, 'Order of a block's cases', 'Aligned block', 'Sub-sample block', 'When a player ends' and 'Ramps': the block call.
 -- docs/REFERENCE.md, 'Output block' and 'Refusals': its output, and what it refuses. n is the block length. Definitions only.
 -- What a block does to the player doesn't depend on the frames: `plan` gives it, with how a channel's frames become its samples.
 use Rattle.std.specs.Prelude.{Bool, true, false, not, ◌&&◌, ◌||◌, cond, List, ℕ, zero, suc, ◌*◌, eqb, pos, length, Float, Result, Ok, Err}
@@ -12,12 +12,14 @@ use Rattle.buffer.specs.Channels.{channel}
 use Rattle.buffer.specs.Limits.{valid_shape, duration}
 use Rattle.buffer.specs.declared.refusals.Refusal.TheVariants as refused
 use Rattle.seconds.specs.Seconds.{context, in_clip, never, float_zero, one, dt, block_seconds, block_end}
-use Rattle.player.specs.Record.{render_of, moved}
+use Rattle.player.specs.Record.{render_of, moved, with_ramp}
 use Rattle.player.specs.Reports.{report_from}
 use Rattle.player.specs.Factor.{is_factor}
 use Rattle.aligned.specs.Aligned.{first_frame, ends_within, aligned_sample, last_wrap, aligned_position}
-use Rattle.sub_sample.specs.SubSample.{head_of, head_at, info_of_sample}
+use Rattle.sub_sample.specs.SubSample.{head_of, head_at, before_start, info_of_sample}
 use Rattle.interpolated.specs.Interpolated.{sample_of}
+use Rattle.ramps.specs.Ramps.{ramped, counted, stopping}
+use Rattle.ramps.specs.declared.Ramp.{Ramp}
 use Rattle.player.specs.declared.Player.{Player}
 use Rattle.player.specs.declared.RenderState.{RenderState}
 use Rattle.sub_sample.specs.declared.Settings.{Settings}
@@ -25,16 +27,18 @@ use Rattle.sub_sample.specs.declared.Playhead.{Playhead}
 use Rattle.player.specs.declared.BlockReport.{BlockReport}
 use Rattle.buffer.specs.declared.refusals.Refusal.{Refusal}
 
--- the player after a block, keep-alive, the answered channels, and sample i of a channel by that channel's frames
+-- the player after a block, keep-alive, the answered channels, how many of the first samples come before the starting one, and sample i of
+-- a channel by that channel's frames
 pub record Plan : Type 0 where
   pub player : Player
   pub keep_alive : Bool
   pub channels : ℕ
+  pub uncounted : ℕ
   pub sample : List ℕ → ℕ → ℕ
 
--- ---- silence is one channel of zeros
-abbrev pub silent : Player → Bool → Plan
-silent p keep = record { player = p; keep_alive = keep; channels = 1; sample = λ frames i. 0 }
+-- ---- silence is one channel of zeros, none of which counts
+abbrev pub silent : ℕ → Player → Bool → Plan
+silent n p keep = record { player = p; keep_alive = keep; channels = 1; uncounted = n; sample = λ frames i. 0 }
 
 abbrev pub with_ended : RenderState → Bool → RenderState
 with_ended r ended = render_of r.buffer_time.0 r.started r.entered_loop r.buffer_time_elapsed.0 r.is_aligned ended
@@ -97,6 +101,7 @@ aligned_plan n p time computed =
           (render_of position (r.started || eq start time) r.entered_loop elapsed true (has_ended n p time computed position elapsed)) time;
       keep_alive = true;
       channels = p.shape.channels;
+      uncounted = 0;
       sample = aligned_sample turns p.shape.frames (first_of p);
     }
 
@@ -143,23 +148,46 @@ sub_sample_plan n p time rate computed =
           (render_of l.buffer_time.0 l.started l.entered_loop l.buffer_time_elapsed.0 false ended) time;
       keep_alive = true;
       channels = p.shape.channels;
+      uncounted = before_start s h n;
       sample = λ frames i. sample_of s frames (info_of_sample s i (head_at s h i));
     }
 
 -- ---- the order of the block's cases
 -- Silent: it has ended; it has a start but no buffer, which ends it; it starts at or past the block's end, which ends it
--- if the stop is reached; it has no buffer. Else it plays, aligned or sub-sample.
-unfoldable pub plan : ℕ → Player → Float → Float → Float → Plan
-plan n p time rate factor =
+-- if the stop is reached; it has no buffer. Else it plays, aligned or sub-sample. All this without a ramp, of which it reads nothing.
+unfoldable pub bare_plan : ℕ → Player → Float → Float → Float → Plan
+bare_plan n p time rate factor =
     let end = block_end n time p.sample_rate in
     let computed = computed_rate rate factor in
-    cond p.render_state.ended (silent (idle p time true) false)
-    (cond (not p.has_buffer && ne p.start_time.0 never) (silent (idle p time true) false)
+    cond p.render_state.ended (silent n (idle p time true) false)
+    (cond (not p.has_buffer && ne p.start_time.0 never) (silent n (idle p time true) false)
     (cond (le end p.start_time.0)
-    (cond (le p.stop_time.0 end) (silent (idle p time true) false) (silent (idle p time false) (ne p.start_time.0 never)))
-    (cond (not p.has_buffer) (silent (idle p time false) false)
+    (cond (le p.stop_time.0 end) (silent n (idle p time true) false) (silent n (idle p time false) (ne p.start_time.0 never)))
+    (cond (not p.has_buffer) (silent n (idle p time false) false)
     (cond (is_aligned n p time computed) (aligned_plan n p time computed)
     (sub_sample_plan n p time rate computed)))))
+
+-- ---- with the ramp (docs/REFERENCE.md, 'Ramps')
+-- its samples are multiplied by this ramp: a block in which the clip starts works out the number of the stop's sample, by the start time
+-- that it leaves
+unfoldable pub ramp_in : Player → Bool → Float → Ramp
+ramp_in p started start =
+    cond (not p.render_state.started && started) (stopping p.ramp start p.stop_time.0 p.sample_rate) p.ramp
+
+-- and it counts them. What else a block does is the bare plan's
+unfoldable pub ramped_plan : ℕ → Player → Plan → Plan
+ramped_plan n p q =
+    let r = ramp_in p q.player.render_state.started q.player.start_time.0 in
+    record {
+      player = with_ramp q.player (counted n r q.uncounted);
+      keep_alive = q.keep_alive;
+      channels = q.channels;
+      uncounted = q.uncounted;
+      sample = λ frames i. ramped r q.uncounted i (q.sample frames i);
+    }
+
+abbrev pub plan : ℕ → Player → Float → Float → Float → Plan
+plan n p time rate factor = ramped_plan n p (bare_plan n p time rate factor)
 
 -- ---- refusals, by the output's and the samples' lengths
 

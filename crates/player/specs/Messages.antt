@@ -1,10 +1,12 @@
 -- docs/REFERENCE.md, 'Player and messages' and 'Refusals': the control messages and the buffer call. Definitions only.
 -- The checks stand in the order of the refusals.
-use Rattle.std.specs.Prelude.{Bool, true, not, ◌||◌, cond, ℕ, eqb, Float, Result, Ok, Err}
+use Rattle.std.specs.Prelude.{Bool, true, not, ◌||◌, cond, ℕ, ltb, eqb, Float, Result, Ok, Err}
 use Rattle.std.specs.Float.Ieee.{lt, le}
 use Rattle.std.specs.Float.Ieee.Scale.{finite}
 use Rattle.seconds.specs.Seconds.{context, in_clip, float_zero}
-use Rattle.player.specs.Record.{shape_of, loop_of, fresh, fresh_with, told, given}
+use Rattle.player.specs.Record.{shape_of, loop_of, fresh, fresh_with, told, given, with_ramp}
+use Rattle.ramps.specs.Ramps.{longest, stopping}
+use Rattle.ramps.specs.declared.Ramp.{Ramp}
 use Rattle.buffer.specs.Limits.{valid_rate, valid_shape, duration}
 use Rattle.buffer.specs.declared.refusals.Refusal.TheVariants as refused
 use Rattle.player.specs.declared.LoopState.{LoopState}
@@ -14,9 +16,12 @@ use Rattle.player.specs.declared.ControlMessage.{ControlMessage}
 use Rattle.player.specs.declared.ControlMessage.TheVariants.{Start, Stop, Loop, LoopStart, LoopEnd}
 use Rattle.buffer.specs.declared.refusals.Refusal.{Refusal}
 
--- a player made for an output rate with these options: 2 is checked first
+-- a player made for an output rate with these options: 2, then 19 of a ramp that is too long
 unfoldable pub made_with : Float → PlayerOptions → Result Player Refusal
-made_with rate options = cond (valid_rate rate) (Ok (fresh_with rate options)) (Err refused.Rate)
+made_with rate options =
+    cond (not (valid_rate rate)) (Err refused.Rate)
+    (cond (ltb longest options.ramp) (Err refused.Ramp)
+    (Ok (fresh_with rate options)))
 
 -- a player made for an output rate
 unfoldable pub made : Float → Result Player Refusal
@@ -56,12 +61,17 @@ on_start p when offset duration =
     (cond p.has_start (Err refused.Second)
     (Ok (clamped (told p true (context when) p.stop_time (in_clip offset) (in_clip duration) p.loop_state))))
 
+-- one that comes when the clip has started works out the number of its sample anew (docs/REFERENCE.md, 'Ramps')
+unfoldable pub ramp_at_stop : Player → Float → Ramp
+ramp_at_stop p when = cond p.render_state.started (stopping p.ramp p.start_time.0 when p.sample_rate) p.ramp
+
 -- a stop: 9, and 11 before a start
 unfoldable pub on_stop : Player → Float → Result Player Refusal
 on_stop p when =
     cond (bad_time when) (Err refused.Value)
     (cond (not p.has_start) (Err refused.Early)
-    (Ok (clamped (told p p.has_start p.start_time (context when) p.offset p.duration p.loop_state))))
+    (Ok (clamped
+    (with_ramp (told p p.has_start p.start_time (context when) p.offset p.duration p.loop_state) (ramp_at_stop p when)))))
 
 -- the loop on or off: never refused
 unfoldable pub on_loop : Player → Bool → Result Player Refusal

@@ -1,5 +1,5 @@
 -- docs/REFERENCE.md, 'Player and messages': the player's record, a fresh one, and what each kind of call may change of
--- it. The tolerances are those that the player was made with: no call changes them. Definitions only.
+-- it. The tolerances and the ramp's length are those that the player was made with: no call changes them. Definitions only.
 use Rattle.std.specs.Prelude.{Bool, true, false, ℕ, Float}
 use Rattle.std.specs.Float.{binary32}
 use Rattle.std.specs.Float.Ieee.{of_bits}
@@ -10,6 +10,8 @@ use Rattle.player.specs.declared.LoopState.{LoopState}
 use Rattle.player.specs.declared.RenderState.{RenderState}
 use Rattle.buffer.specs.declared.Shape.{Shape}
 use Rattle.tolerances.specs.Tolerances.{defaults}
+use Rattle.ramps.specs.Ramps as ramps
+use Rattle.ramps.specs.declared.Ramp.{Ramp}
 use Rattle.player.specs.declared.PlayerOptions.{PlayerOptions}
 use Rattle.player.specs.declared.Player.{Player}
 
@@ -31,7 +33,7 @@ render_of position started entered elapsed aligned ended = record {
 
 -- what a player is made with, beside its output rate, where nothing else is said
 abbrev pub default_options : PlayerOptions
-default_options = record { tolerances = defaults }
+default_options = record { tolerances = defaults; ramp = 0 }
 
 -- a player for an output rate, with these options, that has received nothing yet
 unfoldable pub fresh_with : Float → PlayerOptions → Player
@@ -49,6 +51,7 @@ fresh_with rate options = record {
   has_block = false;
   block_time = context float_zero;
   tolerances = options.tolerances;
+  ramp = ramps.fresh options.ramp;
 }
 
 -- the one made for a rate alone has the defaults
@@ -71,6 +74,7 @@ told p has_start start stop offset duration loop = record {
   has_block = p.has_block;
   block_time = p.block_time;
   tolerances = p.tolerances;
+  ramp = p.ramp;
 }
 
 -- what the buffer call changes, before the loop points are clamped
@@ -89,6 +93,7 @@ given p shape = record {
   has_block = p.has_block;
   block_time = p.block_time;
   tolerances = p.tolerances;
+  ramp = p.ramp;
 }
 
 -- what a block may change: the start time, the offset, what is rendered, and the last accepted block's time
@@ -107,4 +112,9 @@ moved p start offset render time = record {
   has_block = true;
   block_time = context time;
   tolerances = p.tolerances;
+  ramp = p.ramp;
 }
+
+-- with another ramp: what a stop and a block may change besides
+abbrev pub with_ramp : Player → Ramp → Player
+with_ramp p ramp = record p { ramp = ramp }

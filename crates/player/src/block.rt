@@ -1,32 +1,51 @@
 //! The block call. A silent block is short, and so is what stands around the channels of another: that code is
 //! inlined in each call that plays a block. Channels are written by code that these calls share, so that they
 //! take the same time in each of them (docs/DECISIONS.md, 'What the calls that play a block share').
-ghost use Rattle.std.specs.Prelude.{◌≡◌, true, false, not, ◌&&◌, ◌||◌, length, Ok, Err};
+ghost use Rattle.std.specs.Prelude.{◌≡◌, true, false, not, ◌&&◌, ◌||◌, [], length, Ok, Err};
 ghost use Rattle.std.specs.Float.Ieee.{eq, ne};
 ghost use Rattle.buffer.specs.Limits.{Valid};
 ghost use Rattle.seconds.specs.Seconds.{never};
 ghost use Rattle.lists.specs.Table.{table};
 ghost use Rattle.lists.specs.Parts.{put};
 ghost use Rattle.aligned.specs.Aligned.{aligned_sample};
-ghost use Rattle.sub_sample.specs.SubSample.{head_at, info_of_sample};
-ghost use Rattle.interpolated.specs.Interpolated.{sample_of};
-ghost use Rattle.player.specs.Record.{render_of, moved};
+ghost use Rattle.sub_sample.specs.SubSample.{head_at, before_start, info_of_sample};
+ghost use Rattle.interpolated.specs.Interpolated.{sample_of, sample_by};
+ghost use Rattle.ramps.specs.Ramps.{ramped, counted};
+ghost use Rattle.ramps.specs.Factors.{multiplied_by};
+ghost use Rattle.player.specs.Record.{render_of, moved, with_ramp};
 ghost use Rattle.player.specs.Reports.{report_from};
-ghost use Rattle.player.specs.Block.{silent, idle, computed_rate, has_ended, aligned_plan, sub_sample_plan, plan};
+ghost use Rattle.player.specs.Block.{silent, idle, computed_rate, has_ended, aligned_plan, sub_sample_plan, ramp_in, ramped_plan, plan};
 ghost use Rattle.player.specs.Block.{bad_samples, report_of, rendered, written, output, without_factor};
 
 use super::output::write_channels;
 use super::{BlockReport, Factor, GivesFactor, Player, RenderState};
 use aligned::{aligned_position, last_wrap};
 use buffer::{Channels, Refusal};
+use ramps::{Factors, Ramp};
 use seconds::{BufferSeconds, ContextSeconds, NEVER, block_end, block_seconds};
-use sub_sample::{Playhead, Settings, fill_infos};
+use sub_sample::{Infos, Playhead, Settings, fill_infos};
 
 // The rate with its factor.
 fn computed_rate(rate: f32, factor: f64) -> f64
     ensures { result ≡ computed_rate rate factor }
 {
     f64::from(rate) * factor
+}
+
+// A channel's part of an aligned block, ramped.
+fn write_aligned_part(
+    part: &mut [u32],
+    channel: &[u32],
+    turns: bool,
+    first: usize,
+    factors: &Factors,
+)
+    ensures { length part.old ≡ 128 → part.new
+        ≡ table 128 (λ i. multiplied_by factors.now i
+        (aligned_sample turns (length channel.now) first channel.now i)) }
+{
+    aligned::write_channel(part, channel, turns, first);
+    factors.multiply(part);
 }
 
 // The channels of an aligned block, each in its own part of the output.
@@ -40,25 +59,88 @@ fn write_aligned(out: &mut [u32; 4096], channels: Channels, turns: bool, first: 
     });
 }
 
-// The channels of a sub-sample block, each in its own part of the output, and the playhead after it.
+// The same, each part ramped. A call, since it is rare.
 #[inline(never)]
-#[tactic(auto, using(crate::proofs::Sampled::by_infos, lists::specs::Table::filled_end))]
-fn write_sub_sample(
+fn write_aligned_ramped(
+    out: &mut [u32; 4096],
+    channels: Channels,
+    turns: bool,
+    first: usize,
+    ramp: Ramp,
+)
+    ensures { let it = channels.entry in
+        out.new ≡ written 128 (λ frames i. ramped ramp 0 i (aligned_sample turns it.frames first frames i)) it.frames
+        it.samples.now out.old it.count }
+{
+    let factors = ramp.factors(0);
+    write_channels(out, channels, |part, channel| {
+        write_aligned_part(part, channel, turns, first, &factors)
+    });
+}
+
+// The channels of an aligned block, by its ramp.
+#[inline(always)]
+fn play_aligned(out: &mut [u32; 4096], channels: Channels, turns: bool, first: usize, ramp: Ramp)
+    ensures { let it = channels.entry in
+        out.new ≡ written 128 (λ frames i. ramped ramp 0 i (aligned_sample turns it.frames first frames i)) it.frames
+        it.samples.now out.old it.count }
+{
+    if ramp.touches(0) {
+        write_aligned_ramped(out, channels, turns, first, ramp);
+    } else {
+        write_aligned(out, channels, turns, first);
+    }
+}
+
+// A channel's part of a sub-sample block, ramped.
+fn write_sub_sample_part(
+    part: &mut [u32],
+    channel: &[u32],
+    s: Settings,
+    infos: &Infos,
+    factors: &Factors,
+)
+    ensures { length part.old ≡ 128 → part.new
+        ≡ table 128 (λ i. multiplied_by factors.now i (sample_by s infos.now channel.now i)) }
+{
+    interpolated::write_channel(part, channel, s, infos);
+    factors.multiply(part);
+}
+
+// The channels of a sub-sample block, each in its own part of the output.
+fn write_sub_sample(out: &mut [u32; 4096], channels: Channels, s: Settings, infos: &Infos)
+    ensures { let it = channels.entry in
+        out.new ≡ written 128 (sample_by s infos.now) it.frames it.samples.now out.old it.count }
+{
+    write_channels(out, channels, |part, channel| {
+        interpolated::write_channel(part, channel, s, infos)
+    });
+}
+
+// The same, each part ramped.
+fn write_sub_sample_ramped(
     out: &mut [u32; 4096],
     channels: Channels,
     s: Settings,
-    head: Playhead,
-) -> Playhead
+    infos: &Infos,
+    ramp: Ramp,
+    uncounted: usize,
+)
     ensures { let it = channels.entry in
-        (result ≡ head_at s head 128)
-        × (out.new ≡ written 128 (λ frames i. sample_of s frames (info_of_sample s i (head_at s head i))) it.frames
-        it.samples.now out.old it.count) }
+        out.new ≡ written 128 (λ frames i. ramped ramp uncounted i (sample_by s infos.now frames i)) it.frames
+        it.samples.now out.old it.count }
 {
-    let filled = fill_infos(s, head);
+    let factors = ramp.factors(uncounted);
     write_channels(out, channels, |part, channel| {
-        interpolated::write_channel(part, channel, s, &filled.infos)
+        write_sub_sample_part(part, channel, s, infos, &factors)
     });
-    filled.head
+}
+
+// What a sub-sample block leaves: the playhead, and the ramp.
+#[derive(Clone, Copy)]
+struct Played {
+    head: Playhead,
+    ramp: Ramp,
 }
 
 impl Player {
@@ -102,7 +184,6 @@ impl Player {
     }
 
     // Silence is one channel of zeros.
-    #[tactic(auto, using(crate::proofs::Written::silence))]
     #[inline(always)]
     fn silent_block(
         self,
@@ -111,8 +192,8 @@ impl Player {
         ended: bool,
         keep_alive: bool,
     ) -> BlockReport
-        ensures { (result ≡ report_of (silent (idle self time ended) keep_alive))
-            × (out.new ≡ put 0 128 (table 128 (λ i. 0)) out.old) }
+        ensures { let q = ramped_plan 128 self (silent 128 (idle self time ended) keep_alive) in
+            (result ≡ report_of q) × (out.new ≡ put 0 128 (table 128 (q.sample [])) out.old) }
     {
         out[0..128].fill(0);
         self.idle(time, ended).report(keep_alive, 1)
@@ -125,7 +206,59 @@ impl Player {
         self.render_state.started || start == time
     }
 
-    // The player after an aligned block.
+    // The ramp by which a block's samples are multiplied, where the clip has started then, at this time.
+    #[tactic(auto, unfolding(crate::specs::Block::ramp_in))]
+    #[inline(always)]
+    fn ramp_in(self, started: bool, start: f64) -> Ramp
+        ensures { result ≡ ramp_in self started start }
+    {
+        if !self.render_state.started && started {
+            self.ramp
+                .stopping(start, self.stop_time.0, self.sample_rate)
+        } else {
+            self.ramp
+        }
+    }
+
+    // The player with another ramp.
+    fn with_ramp(self, ramp: Ramp) -> Player
+        ensures { result ≡ with_ramp self ramp }
+    {
+        Player { ramp, ..self }
+    }
+
+    // The channels of a sub-sample block, and what it leaves. A call that each call of a block shares.
+    #[inline(never)]
+    fn play_sub_sample(
+        self,
+        out: &mut [u32; 4096],
+        channels: Channels,
+        s: Settings,
+        head: Playhead,
+    ) -> Played
+        ensures { let it = channels.entry in
+            let last = head_at s head 128 in
+            let uncounted = before_start s head 128 in
+            let r = ramp_in self last.started last.start_time.0 in
+            (result.head ≡ last) × (result.ramp ≡ counted 128 r uncounted)
+            × (out.new ≡ written 128 (λ frames i. ramped r uncounted i
+            (sample_of s frames (info_of_sample s i (head_at s head i)))) it.frames it.samples.now out.old it.count) }
+    {
+        let filled = fill_infos(s, head);
+        let uncounted = filled.before_start;
+        let ramp = self.ramp_in(filled.head.started, filled.head.start_time.0);
+        if ramp.touches(uncounted) {
+            write_sub_sample_ramped(out, channels, s, &filled.infos, ramp, uncounted);
+        } else {
+            write_sub_sample(out, channels, s, &filled.infos);
+        }
+        Played {
+            head: filled.head,
+            ramp: ramp.after(uncounted),
+        }
+    }
+
+    // The player after an aligned block, but for its ramp.
     #[tactic(auto, unfolding(crate::specs::Block::aligned_plan))]
     #[inline(always)]
     fn aligned_player(self, time: f64, computed: f64) -> Player
@@ -147,7 +280,7 @@ impl Player {
         self.moved(start, self.offset.0, render_state, time)
     }
 
-    // The player after a sub-sample block that leaves this playhead.
+    // The player after a sub-sample block that leaves this playhead, but for its ramp.
     #[inline(always)]
     fn sub_sample_player(self, time: f64, computed: f64, head: Playhead) -> Player
         ensures { result ≡ moved self head.start_time.0 head.offset.0
@@ -182,7 +315,7 @@ impl Player {
 
     // An aligned block, of the channels of the player's buffer. That they are the player's is asked here and of a
     // sub-sample block alone, so it is no type of its own.
-    #[tactic(auto, unfolding(crate::specs::Block::aligned_plan))]
+    #[tactic(auto, unfolding(crate::specs::Block::aligned_plan, crate::specs::Block::ramped_plan))]
     #[inline(always)]
     fn aligned_block(
         self,
@@ -192,18 +325,21 @@ impl Player {
         computed: f64,
     ) -> BlockReport
         requires { (channels.count ≡ self.shape.channels) × (channels.frames ≡ self.shape.frames) }
-        ensures { let q = aligned_plan 128 self time computed in
+        ensures { let q = ramped_plan 128 self (aligned_plan 128 self time computed) in
             (result ≡ report_of q)
             × (out.new ≡ written 128 q.sample self.shape.frames channels.entry.samples.now out.old q.channels) }
     {
-        write_aligned(out, channels, self.turns_over(), self.first_of());
+        let start = self.start_at(time);
+        let ramp = self.ramp_in(self.has_begun(start, time), start);
+        play_aligned(out, channels, self.turns_over(), self.first_of(), ramp);
         self.aligned_player(time, computed)
+            .with_ramp(ramp.after(0))
             .report(true, channels.count)
     }
 
     // A sub-sample block, of the channels of the player's buffer.
     #[inline(always)]
-    #[tactic(auto, unfolding(crate::specs::Block::sub_sample_plan))]
+    #[tactic(auto, unfolding(crate::specs::Block::sub_sample_plan, crate::specs::Block::ramped_plan))]
     fn sub_sample_block(
         self,
         out: &mut [u32; 4096],
@@ -213,13 +349,14 @@ impl Player {
         computed: f64,
     ) -> BlockReport
         requires { (channels.count ≡ self.shape.channels) × (channels.frames ≡ self.shape.frames) }
-        ensures { let q = sub_sample_plan 128 self time rate computed in
+        ensures { let q = ramped_plan 128 self (sub_sample_plan 128 self time rate computed) in
             (result ≡ report_of q)
             × (out.new ≡ written 128 q.sample self.shape.frames channels.entry.samples.now out.old q.channels) }
     {
         let head = self.first_head(time);
-        let head = write_sub_sample(out, channels, self.settings(time, rate, computed), head);
-        self.sub_sample_player(time, computed, head)
+        let played = self.play_sub_sample(out, channels, self.settings(time, rate, computed), head);
+        self.sub_sample_player(time, computed, played.head)
+            .with_ramp(played.ramp)
             .report(true, self.shape.channels)
     }
 
@@ -231,7 +368,7 @@ impl Player {
     }
 
     // A block that is not refused, by the order of its cases. The factor is asked for where the block plays.
-    #[tactic(auto, using(buffer::specs::Limits::valid), unfolding(crate::specs::Block::bad_samples, crate::specs::Block::plan, crate::specs::Block::written))]
+    #[tactic(auto, using(buffer::specs::Limits::valid), unfolding(crate::specs::Block::bad_samples, crate::specs::Block::bare_plan, crate::specs::Block::ramped_plan, crate::specs::Block::written))]
     #[inline(always)]
     fn render<F: GivesFactor>(
         self,

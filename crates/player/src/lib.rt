@@ -13,6 +13,7 @@ mod refusal;
 
 use buffer::Shape;
 pub use factor::{Factor, GivesFactor};
+use ramps::Ramp;
 use seconds::{BufferSeconds, ContextSeconds};
 use tolerances::Tolerances;
 
@@ -52,6 +53,8 @@ pub struct RenderState {
 pub struct PlayerOptions {
     /// How near two times, a fraction and 1, or a position and 0 are taken as equal.
     pub tolerances: Tolerances,
+    /// The frames of the ramp at onset and at the stop, 0 to 48,000; 0 is none.
+    pub ramp: usize,
 }
 
 /// A player. C sees this record, so a start, a buffer and a block's time that may be missing are each a flag
@@ -87,6 +90,8 @@ pub struct Player {
     pub block_time: ContextSeconds,
     /// The tolerances that the player was made with. No call changes them.
     pub tolerances: Tolerances,
+    /// The ramp at onset and at the stop: its length, which no call changes, and where it stands.
+    pub ramp: Ramp,
 }
 
 /// A control message. Times are in seconds.

@@ -1,11 +1,12 @@
 //! The control messages and the buffer call.
 ghost use Rattle.std.specs.Prelude.{◌≡◌, length};
 ghost use Rattle.player.specs.Record.{fresh_with};
-ghost use Rattle.player.specs.Messages.{made, made_with, buffered, handled, bad_time, clamped_start, clamped_end, clamped};
+ghost use Rattle.player.specs.Messages.{made, made_with, buffered, handled, bad_time, clamped_start, clamped_end, clamped, ramp_at_stop};
 ghost use Rattle.player.specs.Messages.{on_start, on_stop, on_loop, on_loop_start, on_loop_end};
 
 use super::{ControlMessage, Player, PlayerOptions};
 use buffer::{Refusal, Shape, check_rate, check_shape};
+use ramps::{LONGEST, Ramp};
 use rounding::is_finite;
 use seconds::{BufferSeconds, ContextSeconds, NEVER};
 
@@ -53,6 +54,7 @@ impl Player {
         Self {
             sample_rate,
             tolerances: options.tolerances,
+            ramp: Ramp::new(options.ramp),
             start_time: ContextSeconds(NEVER),
             stop_time: ContextSeconds(NEVER),
             duration: BufferSeconds(NEVER),
@@ -60,13 +62,16 @@ impl Player {
         }
     }
 
-    /// A fresh player for an output rate, in samples per second, with these options. Refuses 2: the rate is outside
-    /// 3,000 to 768,000, or a NaN.
+    /// A fresh player for an output rate, in samples per second, with these options. Refuses 2, the rate is outside
+    /// 3,000 to 768,000, or a NaN; then 19, the ramp is longer than 48,000 frames.
     #[tactic(auto, unfolding(crate::specs::Messages::made_with))]
     pub fn with_options(sample_rate: f32, options: PlayerOptions) -> Result<Player, Refusal>
         ensures { result ≡ made_with sample_rate options }
     {
         check_rate(sample_rate)?;
+        if options.ramp > LONGEST {
+            return Err(Refusal::Ramp);
+        }
         Ok(Player::fresh_with(sample_rate, options))
     }
 
@@ -108,6 +113,19 @@ impl Player {
         Ok(self.clamp_loop_boundaries())
     }
 
+    // The ramp after a stop: the number of its sample is worked out anew where the clip has started.
+    #[tactic(auto, unfolding(crate::specs::Messages::ramp_at_stop))]
+    fn ramp_at_stop(self, when: f64) -> Ramp
+        ensures { result ≡ ramp_at_stop self when }
+    {
+        if self.render_state.started {
+            self.ramp
+                .stopping(self.start_time.0, when, self.sample_rate)
+        } else {
+            self.ramp
+        }
+    }
+
     #[tactic(auto, unfolding(crate::specs::Messages::on_stop))]
     fn on_stop(mut self, when: f64) -> Result<Player, Refusal>
         ensures { result ≡ on_stop self when }
@@ -118,6 +136,7 @@ impl Player {
         if !self.has_start {
             return Err(Refusal::Early);
         }
+        self.ramp = self.ramp_at_stop(when);
         self.stop_time.0 = when;
         Ok(self.clamp_loop_boundaries())
     }

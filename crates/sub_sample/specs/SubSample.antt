@@ -1,6 +1,6 @@
 -- docs/REFERENCE.md, 'Sub-sample block' and 'Near tests and tolerances': where the playhead stands for each sample, and
 -- what the sample plays. Every near test goes by the tolerances that the player was made with. Definitions only.
-use Rattle.std.specs.Prelude.{Bool, true, not, ◌&&◌, ◌||◌, cond, ℕ, zero, suc, ltb, Float, Option, None, Some}
+use Rattle.std.specs.Prelude.{Bool, true, not, ◌&&◌, ◌||◌, cond, ℕ, zero, suc, ◌+◌, ltb, Float, Option, None, Some}
 use Rattle.std.specs.Float.{binary64}
 use Rattle.std.specs.Float.Ieee.{add, sub, mul, lt, le, to_unsigned}
 use Rattle.rounding.specs.Rounding.{whole, magnitude, floor, rem_euclid}
@@ -141,3 +141,8 @@ info_of_sample s i h =
 unfoldable pub head_at : Settings → Playhead → ℕ → Playhead
 head_at s h zero = h
 head_at s h (suc i) = stepped s i (head_at s h i)
+
+-- the starting sample is the one at which the playhead starts; so many of the first i samples come before it
+unfoldable pub before_start : Settings → Playhead → ℕ → ℕ
+before_start s h zero = 0
+before_start s h (suc i) = cond (head_at s h (suc i)).started (before_start s h i) (before_start s h i + 1)

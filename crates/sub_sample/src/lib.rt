@@ -79,13 +79,15 @@ pub struct Infos {
     pub present: [bool; 128],
 }
 
-/// The infos of a block, and the playhead after it.
+/// The infos of a block, the playhead after it, and where in it the clip starts.
 #[derive(Drop)]
 pub struct Filled {
     /// What each of the 128 samples plays.
     pub infos: Infos,
     /// The playhead after the last sample.
     pub head: Playhead,
+    /// How many of the samples come before the starting one: 0 where the clip had started, 128 where it doesn't.
+    pub before_start: usize,
 }
 
 /// What a sample of a sub-sample block plays, if any, and the playhead after it.
