@@ -80,7 +80,8 @@ enum {
     NETTHIMBLE_LAYOUT = 15,  /* clip: header, offsets or length differ from the layout; to be written: no frames, or a file over 65,536 bytes */
     NETTHIMBLE_CENTS = 16,   /* cents outside -12,000..12,000 */
     NETTHIMBLE_ONSET = 17,   /* clip with an onset: the onset is not below the frames */
-    NETTHIMBLE_TOLERANCE = 18 /* tolerances: one that is not finite, or outside 0..1 */
+    NETTHIMBLE_TOLERANCE = 18, /* tolerances: one that is not finite, or outside 0..1 */
+    NETTHIMBLE_RAMP = 19     /* making a player: a ramp of more than 48,000 frames */
 };
 
 /* ---- the records */
@@ -111,7 +112,17 @@ typedef struct {
  * Zeroed options are not the defaults: they test for equality alone, and a sound then begins a sample late now and then. */
 typedef struct {
     netthimble_tolerances tolerances;
+    size_t ramp; /* frames of the ramp at onset and at the stop, 0 to 48,000; 0, the default, is none */
 } netthimble_options;
+
+/* A ramp as it stands (docs/REFERENCE.md, 'Ramps'). The starting sample is number 0, and every later sample of a block counts, until the
+ * player has ended. Of a record that no call made, a length over 48,000 counts as 48,000, and a stop_sample over 2^52 as 2^52. */
+typedef struct {
+    size_t length;         /* frames: those of the options that the player was made with */
+    uint64_t count;        /* the number of the next sample; it stays at 2^53 */
+    bool has_stop_sample;  /* whether the next is known */
+    uint64_t stop_sample;  /* (stop - start) x the output's rate, rounded down, 0 to 2^52: from this sample on all are zero */
+} netthimble_ramp;
 
 /* A player. To be read, copied and handed back; a program that writes a field has made a record that no call made. */
 typedef struct {
@@ -139,6 +150,7 @@ typedef struct {
     bool has_block;
     double block_time; /* seconds of the context */
     netthimble_tolerances tolerances; /* those it was made with: no call changes them */
+    netthimble_ramp ramp;
 } netthimble_player;
 
 /* The player that a call by value leaves. Where it is refused: of netthimble_new and netthimble_new_with the player that never plays, of a
@@ -235,12 +247,18 @@ NETTHIMBLE_HOLDS(tolerances_size, sizeof(netthimble_tolerances) == 24);
 NETTHIMBLE_AT(tolerances, near, near, 0);
 NETTHIMBLE_AT(tolerances, near_zero, near_zero, 8);
 NETTHIMBLE_AT(tolerances, relabel, relabel, 16);
-NETTHIMBLE_HOLDS(options_size, sizeof(netthimble_options) == 24);
+NETTHIMBLE_HOLDS(options_size, sizeof(netthimble_options) == 32);
 NETTHIMBLE_AT(options, tolerances, tolerances, 0);
+NETTHIMBLE_AT(options, ramp, ramp, 24);
+NETTHIMBLE_HOLDS(ramp_size, sizeof(netthimble_ramp) == 32);
+NETTHIMBLE_AT(ramp, length, length, 0);
+NETTHIMBLE_AT(ramp, count, count, 8);
+NETTHIMBLE_AT(ramp, has_stop_sample, has_stop_sample, 16);
+NETTHIMBLE_AT(ramp, stop_sample, stop_sample, 24);
 NETTHIMBLE_HOLDS(tolerated_size, sizeof(netthimble_tolerated) == 32);
 NETTHIMBLE_AT(tolerated, tolerances, tolerances, 0);
 NETTHIMBLE_AT(tolerated, refusal, refusal, 24);
-NETTHIMBLE_HOLDS(player_size, sizeof(netthimble_player) == 168);
+NETTHIMBLE_HOLDS(player_size, sizeof(netthimble_player) == 200);
 NETTHIMBLE_AT(player, sample_rate, sample_rate, 0);
 NETTHIMBLE_AT(player, start_time, start_time, 8);
 NETTHIMBLE_AT(player, stop_time, stop_time, 16);
@@ -261,8 +279,9 @@ NETTHIMBLE_AT(player, shape, shape, 104);
 NETTHIMBLE_AT(player, has_block, has_block, 128);
 NETTHIMBLE_AT(player, block_time, block_time, 136);
 NETTHIMBLE_AT(player, tolerances, tolerances, 144);
-NETTHIMBLE_HOLDS(told_size, sizeof(netthimble_told) == 176);
-NETTHIMBLE_AT(told, refusal, refusal, 168);
+NETTHIMBLE_AT(player, ramp, ramp, 168);
+NETTHIMBLE_HOLDS(told_size, sizeof(netthimble_told) == 208);
+NETTHIMBLE_AT(told, refusal, refusal, 200);
 NETTHIMBLE_HOLDS(block_size, sizeof(netthimble_block) == 24);
 NETTHIMBLE_AT(block, position, position, 0);
 NETTHIMBLE_AT(block, channels, channels, 8);
@@ -287,7 +306,7 @@ NETTHIMBLE_AT(count, refusal, refusal, 8);
 
 /* ---- the records' sizes */
 
-/* The bytes of a player's record, and of its options, in the library: 168 and 24, as here. */
+/* The bytes of a player's record, and of its options, in the library: 200 and 32, as here. */
 size_t netthimble_player_size(void);
 size_t netthimble_options_size(void);
 
@@ -306,11 +325,11 @@ netthimble_told netthimble_new(float sample_rate);
 uint32_t netthimble_tolerances_set(netthimble_tolerances *tolerances, double near, double near_zero, float relabel);
 netthimble_tolerated netthimble_tolerances_new(double near, double near_zero, float relabel);
 
-/* The options that netthimble_new makes a player with: the default tolerances. */
+/* The options that netthimble_new makes a player with: the default tolerances, and no ramp. */
 netthimble_options netthimble_default_options(void);
 
-/* A fresh player as of netthimble_new, with these options, which it keeps. Refused: 2, as there. Tolerances are checked where they are made,
- * and not here. */
+/* A fresh player as of netthimble_new, with these options, which it keeps. Refused: 2, as there; then 19, a ramp over 48,000 frames.
+ * Tolerances are checked where they are made, and not here. */
 uint32_t netthimble_player_new_with(netthimble_player *player, float sample_rate, netthimble_options options);
 netthimble_told netthimble_new_with(float sample_rate, netthimble_options options);
 

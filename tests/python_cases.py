@@ -1646,11 +1646,11 @@ def around():
     done = subprocess.run([sys.executable, "-B", "-c", "import netthimble"], stdout=subprocess.PIPE, stderr=subprocess.STDOUT, env=gone, cwd="/")
     check("import without the library", done.returncode != 0 and b"tools/build_library" in done.stdout, done.stdout.decode())
     with tempfile.TemporaryDirectory() as folder:
-        sizes = ("player", 144, "are not those"), ("options", 16, "are not those"), ("player", 168, ""), ("options", 24, "")
+        sizes = ("player", 168, "are not those"), ("options", 24, "are not those"), ("player", 200, ""), ("options", 32, "")
         for call, size, words in (*sizes, (None, 0, "has no netthimble_player_size: it is another library")):
             check(f"import with {call} {size}", *imported(folder, call, size, words))
         early = "has no netthimble_options_size: it is older than this package"
-        check("import of an early library", *imported(folder, "player", 168, early, is_alone=True))
+        check("import of an early library", *imported(folder, "player", 200, early, is_alone=True))
         bare, command = dict(os.environ, NETTHIMBLE_LIBRARY="libnetthimble.so", PYTHONPATH=str(TOP / "python")), [sys.executable, "-B", "-c", "import netthimble"]
         done = run(command, folder=TOP / "target/c", env=bare)
         check("import by a bare name, in its folder", done.returncode == 0 and not done.stdout, done.stdout.decode())

@@ -63,6 +63,12 @@ def cents(call: str, value: Any) -> int:
     return max(I32_LOW, min(I32_HIGH, whole(call, "cents", value)))
 
 
+def ramp(call: str, value: Any) -> int:
+    """A ramp's frames; what no size_t holds becomes a number that the library refuses."""
+    frames = whole(call, "ramp", value)
+    return frames if 0 <= frames <= 48_000 else 48_001
+
+
 def flag(call: str, argument: str, value: Any) -> bool:
     """True or False, NumPy's too, and nothing that is merely true or false."""
     if value is True or value is False:

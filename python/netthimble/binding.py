@@ -7,7 +7,7 @@ from __future__ import annotations
 import ctypes
 import os
 from array import array
-from ctypes import POINTER, c_bool, c_double, c_float, c_int32, c_size_t, c_uint8, c_uint32
+from ctypes import POINTER, c_bool, c_double, c_float, c_int32, c_size_t, c_uint8, c_uint32, c_uint64
 from pathlib import Path
 from typing import Any, Dict, List, Optional, Tuple
 
@@ -57,7 +57,16 @@ class TolerancesRecord(ctypes.Structure):
 
 class Options(ctypes.Structure):
     tolerances: TolerancesRecord
-    _fields_ = [("tolerances", TolerancesRecord)]
+    ramp: int
+    _fields_ = [("tolerances", TolerancesRecord), ("ramp", c_size_t)]
+
+
+class RampRecord(ctypes.Structure):
+    length: int
+    count: int
+    has_stop_sample: bool
+    stop_sample: int
+    _fields_ = [("length", c_size_t), ("count", c_uint64), ("has_stop_sample", c_bool), ("stop_sample", c_uint64)]
 
 
 class PlayerRecord(ctypes.Structure):
@@ -74,10 +83,11 @@ class PlayerRecord(ctypes.Structure):
     has_block: bool
     block_time: float
     tolerances: TolerancesRecord
+    ramp: RampRecord
     _fields_ = [
         ("sample_rate", c_float), ("start_time", c_double), ("stop_time", c_double), ("offset", c_double), ("duration", c_double),
         ("loop_state", LoopState), ("render_state", RenderState), ("has_start", c_bool), ("has_buffer", c_bool), ("shape", Shape),
-        ("has_block", c_bool), ("block_time", c_double), ("tolerances", TolerancesRecord),
+        ("has_block", c_bool), ("block_time", c_double), ("tolerances", TolerancesRecord), ("ramp", RampRecord),
     ]  # fmt: skip
 
 

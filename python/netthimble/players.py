@@ -10,6 +10,7 @@ from typing import Any, List, NoReturn, Optional
 
 from .arguments import RATES, SPEEDS, flag, kind, number, takes
 from .arguments import cents as _cents
+from .arguments import ramp as _ramp
 from .binding import CALL, FRAMES, NEVER, OUT, Options, PlayerRecord, check, check_floats
 from .clips import Clip
 from .errors import Refused, shown
@@ -70,25 +71,27 @@ class Block:
 
 
 class Player:
-    """Plays a clip for an output of `sample_rate` frames a second, by the `tolerances` that it keeps, or the defaults. It is made with neither a
-    clip nor a start, and the loop off; it plays one clip, once (docs/REFERENCE.md, 'Player and messages').
+    """Plays a clip for an output of `sample_rate` frames a second, by the `tolerances` that it keeps, or the defaults, with a ramp of `ramp`
+    frames, 0 to 48,000, at onset and at the stop (docs/REFERENCE.md, 'Ramps'). It is made with neither a clip nor a start, and the loop off;
+    it plays one clip, once (docs/REFERENCE.md, 'Player and messages').
 
     Any threads may share a player, and so may the handlers of signals: a message, a block, a preview and a copy are one step each, which waits for
     nothing, and none is lost; a message counts from the next block on. `set_clip` alone takes a lock.
 
-    A call that is refused changes nothing. Refused with 2: the sample rate."""
+    A call that is refused changes nothing. Refused with 2: the sample rate; then 19: the ramp."""
 
     __slots__ = ("_record", "_clip", "_lock", "__weakref__")
     _record: PlayerRecord
     _clip: Optional[Clip]  # the one that was given, if the record has a buffer; else it says nothing
 
     @takes("Player", RATES)
-    def __init__(self, sample_rate: float, *, tolerances: Optional[Tolerances] = None) -> None:
-        options = Options(record_of("Player", tolerances))
+    def __init__(self, sample_rate: float, *, tolerances: Optional[Tolerances] = None, ramp: int = 0) -> None:
+        options = Options(record_of("Player", tolerances), _ramp("Player", ramp))
         rate = number("Player", "sample_rate", sample_rate)
         check_floats()
         record = PlayerRecord()
-        check("Player", CALL["player_new_with"](record, rate, options), "sample_rate", sample_rate)
+        refusal = CALL["player_new_with"](record, rate, options)
+        check("Player", refusal, *(("ramp", ramp) if refusal == 19 else ("sample_rate", sample_rate)))
         self._begin(record, None)
 
     def _begin(self, record: PlayerRecord, clip: Optional[Clip]) -> None:
@@ -243,6 +246,21 @@ class Player:
     def tolerances(self) -> Tolerances:
         """The tolerances that the player was made with."""
         return Tolerances._of(self._record.tolerances)
+
+    @property
+    def ramp(self) -> int:
+        """The frames of the ramp at onset and at the stop, 0 to 48,000; 0 is none."""
+        return int(self._record.ramp.length)
+
+    @property
+    def ramp_count(self) -> int:
+        """The number that the next sample has, the starting one being 0: how many have counted. Before the start it is 0."""
+        return int(self._record.ramp.count)
+
+    @property
+    def stop_sample(self) -> Optional[int]:
+        """The number of the sample at the stop, from which on all are zero with a ramp; None where there is no stop, or before the start."""
+        return int(self._record.ramp.stop_sample) if self._record.ramp.has_stop_sample else None
 
     @property
     def position(self) -> float:

@@ -53,9 +53,9 @@ static inline netthimble_player zeroed(void) {
 }
 
 /* Where the fields of a player lie, and the bytes of each; then those of a refusal behind it. */
-static const size_t field_at[] = {0, 8, 16, 24, 32, 40, 48, 56, 64, 72, 73, 80, 88, 89, 96, 97, 104, 112, 120, 128, 136, 144, 152, 160, 168};
-static const size_t field_size[] = {4, 8, 8, 8, 8, 1, 8, 8, 8, 1, 1, 8, 1, 1, 1, 1, 8, 8, 4, 1, 8, 8, 8, 4, 4};
-enum { PLAYER_FIELDS = 24, TOLD_FIELDS = PLAYER_FIELDS + 1 };
+static const size_t field_at[] = {0, 8, 16, 24, 32, 40, 48, 56, 64, 72, 73, 80, 88, 89, 96, 97, 104, 112, 120, 128, 136, 144, 152, 160, 168, 176, 184, 192, 200};
+static const size_t field_size[] = {4, 8, 8, 8, 8, 1, 8, 8, 8, 1, 1, 8, 1, 1, 1, 1, 8, 8, 4, 1, 8, 8, 8, 4, 8, 8, 1, 8, 4};
+enum { PLAYER_FIELDS = 28, TOLD_FIELDS = PLAYER_FIELDS + 1 };
 
 /* The same bytes in every field. */
 static inline bool same(const netthimble_player *a, const netthimble_player *b) {

@@ -22,7 +22,7 @@ static netthimble_shape clip_shape(void) {
 static void nothing(void) {}
 
 static void sizes(void) {
-    CHECK(netthimble_player_size() == 168 && netthimble_options_size() == 24);
+    CHECK(netthimble_player_size() == 200 && netthimble_options_size() == 32);
 }
 
 static void makes(void) {

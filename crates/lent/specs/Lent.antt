@@ -43,7 +43,7 @@ abbrev pub factor_for : Result Float Refusal → Factored
 factor_for (Ok factor) = record { factor = factor; refusal = 0 }
 factor_for (Err refused) = record { factor = of_bits binary64 0; refusal = number refused }
 
--- p with the start time, the offset, what is rendered and the last accepted block's time of q
+-- p with the start time, the offset, what is rendered, the last accepted block's time and the ramp of q
 abbrev pub moved_to : Player → Player → Player
 moved_to p q = record {
   sample_rate = p.sample_rate;
@@ -59,4 +59,5 @@ moved_to p q = record {
   has_block = q.has_block;
   block_time = q.block_time;
   tolerances = p.tolerances;
+  ramp = q.ramp;
 }

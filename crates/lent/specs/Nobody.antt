@@ -6,6 +6,7 @@ use Rattle.std.specs.Float.Ieee.{of_bits}
 use Rattle.buffer.specs.declared.Shape.{Shape}
 use Rattle.seconds.specs.Seconds.{context, in_clip, float_zero}
 use Rattle.tolerances.specs.Tolerances.{defaults}
+use Rattle.ramps.specs.Ramps as ramps
 use Rattle.player.specs.Record.{shape_of, loop_of, render_of}
 use Rattle.player.specs.Messages.{handled, buffered}
 use Rattle.player.specs.Block.{rendered}
@@ -37,6 +38,7 @@ nobody = record {
   has_block = false;
   block_time = context float_zero;
   tolerances = defaults;
+  ramp = ramps.fresh 0;
 }
 
 -- it holds a buffer of no channels

@@ -181,6 +181,7 @@ pub fn block_on_lent<F: FnOnce(Player, &mut [u32]) -> Blocked>(
     p.render_state = player.render_state;
     p.has_block = player.has_block;
     p.block_time = player.block_time;
+    p.ramp = player.ramp;
     answer
 }
 

@@ -23,7 +23,8 @@ pub extern "C" fn netthimble_new(sample_rate: f32) -> Told
     after_call(nobody(), Player::new(sample_rate))
 }
 
-/// A fresh player for an output rate, with these options. Refused as the call above.
+/// A fresh player for an output rate, with these options. Refused with 2, then 19; the answer's player then never
+/// plays.
 #[unsafe(no_mangle)]
 pub extern "C" fn netthimble_new_with(sample_rate: f32, options: PlayerOptions) -> Told
     ensures { result ≡ after_call nobody (made_with sample_rate options) }
@@ -40,7 +41,7 @@ pub extern "C" fn netthimble_player_new(p: &mut Player, sample_rate: f32) -> u32
     store(p, Player::new(sample_rate))
 }
 
-/// A fresh player for an output rate, with these options, stored in a lent one. Refused with 2.
+/// A fresh player for an output rate, with these options, stored in a lent one. Refused with 2, then 19.
 #[unsafe(no_mangle)]
 pub extern "C" fn netthimble_player_new_with(
     p: &mut Player,
@@ -216,7 +217,7 @@ pub extern "C" fn netthimble_player_process_cents(
 /// The bytes of a player's record.
 #[unsafe(no_mangle)]
 pub extern "C" fn netthimble_player_size() -> usize
-    ensures { result ≡ 168 }
+    ensures { result ≡ 200 }
 {
     size_of::<Player>()
 }

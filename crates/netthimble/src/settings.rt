@@ -45,7 +45,7 @@ pub extern "C" fn netthimble_default_options() -> PlayerOptions
 /// The bytes of a player's options.
 #[unsafe(no_mangle)]
 pub extern "C" fn netthimble_options_size() -> usize
-    ensures { result ≡ 24 }
+    ensures { result ≡ 32 }
 {
     size_of::<PlayerOptions>()
 }

@@ -3,7 +3,7 @@ use Rattle.std.proofs.Common.{◌≡◌, ℕ, ◌≤◌, Bool, true, false, cond
 use borrow.Author.Tests.{not-false}
 use lib.Ieee.{Float, le, ne}
 use Rattle.seconds.specs.Seconds.{never, block_end}
-use Rattle.player.specs.Block.{Plan, silent, idle, computed_rate, is_aligned, aligned_plan, sub_sample_plan, plan, bad_block_time, bad_rate, bad_samples, checked, report_of, rendered}
+use Rattle.player.specs.Block.{Plan, silent, idle, computed_rate, is_aligned, aligned_plan, sub_sample_plan, bare_plan, ramped_plan, plan, bad_block_time, bad_rate, bad_samples, checked, report_of, rendered}
 use Rattle.player.specs.declared.Player.{Player}
 use Rattle.player.specs.declared.BlockReport.{BlockReport}
 use Rattle.std.specs.Prelude.{Ok}
@@ -34,14 +34,18 @@ module _ (p : Player) (time rate factor : Float) where
   sub_sample_channels = refl
 
   -- silence is one channel; a block that plays has the buffer's channels
-  plan_channels : (p.has_buffer ≡ true → p.shape.channels ≤ 32) → (plan 128 p time rate factor).channels ≤ 32
-  unfolding plan
-  plan_channels few =
+  bare_channels : (p.has_buffer ≡ true → p.shape.channels ≤ 32) → (bare_plan 128 p time rate factor).channels ≤ 32
+  unfolding bare_plan
+  bare_channels few =
       chosen p.render_state.ended p.has_buffer (ne p.start_time.0 never) (le (block_end 128 time p.sample_rate) p.start_time.0) (le p.stop_time.0 (block_end 128 time p.sample_rate)) (is_aligned 128 p time (computed_rate rate factor))
-      (silent (idle p time true) false) (silent (idle p time true) false) (silent (idle p time true) false)
-      (silent (idle p time false) (ne p.start_time.0 never)) (silent (idle p time false) false) (aligned_plan 128 p time (computed_rate rate factor)) (sub_sample_plan 128 p time rate (computed_rate rate factor))
+      (silent 128 (idle p time true) false) (silent 128 (idle p time true) false) (silent 128 (idle p time true) false)
+      (silent 128 (idle p time false) (ne p.start_time.0 never)) (silent 128 (idle p time false) false) (aligned_plan 128 p time (computed_rate rate factor)) (sub_sample_plan 128 p time rate (computed_rate rate factor))
       (omega arith) (omega arith) (omega arith) (omega arith) (omega arith)
       (λ b. rw aligned_channels (few b)) (λ b. rw sub_sample_channels (few b))
+
+  plan_channels : (p.has_buffer ≡ true → p.shape.channels ≤ 32) → (plan 128 p time rate factor).channels ≤ 32
+  unfolding ramped_plan
+  plan_channels few = bare_channels few
 
 -- the samples are the player's buffer
 own_samples : (p : Player) (len : ℕ) → bad_samples p len ≡ false → p.has_buffer ≡ true → p.shape.channels ≤ 32

@@ -95,6 +95,7 @@ impl Machine {
         self.loaded = None;
         let options = PlayerOptions {
             tolerances: tolerances?,
+            ramp: 0,
         };
         let player = Player::with_options(rate, options)?;
         self.loaded = Some(Loaded { player, clip: 0 });
