@@ -166,7 +166,8 @@ def show(sides, units):
 class Run:
     """Random scripts through both sides, batch by batch, and what was counted."""
 
-    NAMES = ["scripts", "with tolerances", "with ramps", "blocks", "calls in cents", "previews", "copies", "conversions", "to one frame", "panics", "differences"]
+    NAMES = ["scripts", "with tolerances", "with ramps", "blocks", "calls in cents", "previews", "copies", "conversions", "to one frame", "panics",
+             "differences"]
 
     def __init__(self, sides, seed, scripts, batch):
         self.sides, self.generator, self.left, self.size = sides, Generator(seed), scripts, batch

@@ -30,8 +30,10 @@ def looped(length, *units, clip=None, when=0.0):
 
 
 def ramps():
-    for part in (known, lengths, factors, numbers_at_the_stop, told_early_and_late, counted, clocks, starts, starts_near, other_speeds, previewed_too, made, unknown):
+    for part in (known, lengths, factors, numbers_at_the_stop, told_early_and_late, counted, clocks, starts, starts_near, other_speeds, previewed_too):
         yield from part()
+    yield from made()
+    yield from unknown()
 
 
 def known():
@@ -97,7 +99,8 @@ def told_early_and_late():
     yield "ramp: stops that are refused", looped(100, T(-1.0), f"T {NAN}", B(), T(200 / RATE), T(-1.0), f"T {INF}", B(D))
     yield "ramp: a stop before a start", [RR(4), ones(), *shown(T(0.0), S(), B()), "Z"]
     yield "ramp: a stop after the end", looped(4, T(100 / RATE), *blocks(2), T(1.0), B(2 * D))
-    yield "ramp: other messages leave it", looped(100, B(), "L 0", P(DT), E(3 * DT), S(), "C 1 1 473B8000", "W 3F800000", T(300 / RATE), B(D), "L 1", B(2 * D))
+    others = ["L 0", P(DT), E(3 * DT), S(), "C 1 1 473B8000", "W 3F800000"]
+    yield "ramp: other messages leave it", looped(100, B(), *others, T(300 / RATE), B(D), "L 1", B(2 * D))
 
 
 def counted():
@@ -154,7 +157,8 @@ def previewed_too():
     units = [ones(), S(50 * DT), "L 1", T(300 / RATE)]
     yield "ramp: previews and blocks", [RR(100), *units, *(each for unit in looked(*blocks(4)) for each in ((unit, "Y") if unit != "Z" else ("Y",)))]
     yield "ramp: previews alone", [RR(100), *units, *shown(M(), M(), N(0.0, 1.0, 700), M(D), M(2 * D), M(300.0), B(), M(D), M(2 * D)), "Z"]
-    yield "ramp: a preview of the block that starts it works out W for itself", [RR(4), ones(), S(LATE + 0.0005), T(LATE + 0.002), M(LATE), "Y", "Z", B(LATE), "Y"]
+    late = [ones(), S(LATE + 0.0005), T(LATE + 0.002)]
+    yield "ramp: a preview of the block that starts it works out W for itself", [RR(4), *late, M(LATE), "Y", "Z", B(LATE), "Y"]
     yield "ramp: refused previews", looped(100, B(), M(0.0), M(D, 1.0, 0.0), N(D, 1.0, 12001), M(D, 1.0, 1.0, 128), M(D, 1.0, 1.0, 4096, 1), M(D), B(D))
 
 
