@@ -8,7 +8,7 @@ from pathlib import Path
 
 sys.path.insert(0, str(Path(__file__).resolve().parent.parent / "tools"))
 from scripts import Generator
-from tolerances import DEFAULTS, takes_own, words_of
+from tolerances import DEFAULTS, takes_own, with_own, words_of
 
 from shared import ORACLE, command_of, options
 
@@ -18,7 +18,7 @@ BATCH = 2000
 def spelled_out(unit):
     """The unit with the defaults on its first line, where that is an `R` or a `Q` which may have tolerances."""
     head, *rest = unit.split("\n")
-    return "\n".join([f"{head} {words_of(*DEFAULTS)}", *rest]) if takes_own(unit) else unit
+    return "\n".join([with_own(head, words_of(*DEFAULTS)), *rest]) if takes_own(unit) else unit
 
 
 def answers(command, scripts):

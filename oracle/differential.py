@@ -5,9 +5,10 @@ A batch of scripts is one input of both programs; about 4 KB a script.
 
 Where the oracle answers `P` (the original panicked) the rest of that script is skipped. The first script
 whose answers differ is made as small as possible and printed, with both answers. The last line is
-    N scripts, N with tolerances, N blocks, N calls in cents, N previews, N copies, N conversions, N to one frame, N panics, N differences
-where scripts with tolerances have lines `R` or `Q` that name some, calls in cents are lines `D` and previews lines `M` and `N`,
-refused ones with them, conversions are those by a real change, and the exit status is 1 where something differs.
+    N scripts, N with tolerances, N with ramps, N blocks, N calls in cents, N previews, N copies, N conversions, N to one frame, N panics, N differences
+where scripts with tolerances have lines `R` or `Q` that name some, and those with ramps a line `R` that names one; calls in cents are lines
+`D` and previews lines `M` and `N`, refused ones with them, conversions are those by a real change, and the exit status is 1 where something
+differs.
 """
 import shlex
 import subprocess
@@ -16,6 +17,7 @@ import threading
 from pathlib import Path
 
 sys.path.insert(0, str(Path(__file__).resolve().parent.parent / "tools"))
+from ramps import has_ramp
 from scripts import MAX, Generator, converted_frames, words_text
 from tolerances import DEFAULTS, has_own, words_of
 
@@ -106,9 +108,12 @@ def simpler_line(unit):
     letter, *numbers = unit.split(" ")
     if "\n" in unit or letter not in plain:
         return
+    ramp = numbers[-1:] if has_ramp(unit) else []
     if has_own(unit):
-        yield f"{letter} {numbers[0]}"
-    for i, value in enumerate(plain[letter][: len(numbers)]):
+        yield " ".join([letter, numbers[0], *ramp])
+    if ramp:
+        yield " ".join([letter, *numbers[:-1]])
+    for i, value in enumerate(plain[letter][: len(numbers) - len(ramp)]):
         if numbers[i] != value:
             yield " ".join([letter, *numbers[:i], value, *numbers[i + 1 :]])
 
@@ -161,7 +166,8 @@ def show(sides, units):
 class Run:
     """Random scripts through both sides, batch by batch, and what was counted."""
 
-    NAMES = ["scripts", "with tolerances", "blocks", "calls in cents", "previews", "copies", "conversions", "to one frame", "panics", "differences"]
+    NAMES = ["scripts", "with tolerances", "with ramps", "blocks", "calls in cents", "previews", "copies", "conversions", "to one frame", "panics",
+             "differences"]
 
     def __init__(self, sides, seed, scripts, batch):
         self.sides, self.generator, self.left, self.size = sides, Generator(seed), scripts, batch
@@ -173,6 +179,7 @@ class Run:
         self.left -= size
         scripts, counts = [self.generator.script() for _ in range(size)], self.counts
         counts["with tolerances"] += sum(any(map(has_own, units)) for units in scripts)
+        counts["with ramps"] += sum(any(map(has_ramp, units)) for units in scripts)
         counts["calls in cents"] += sum(unit.startswith("D ") for units in scripts for unit in units)
         counts["previews"] += sum(unit.startswith(("M ", "N ")) for units in scripts for unit in units)
         counts["copies"] += sum(unit.startswith("K") for units in scripts for unit in units)

@@ -205,7 +205,7 @@ def unknown():
     """Ill-formed lines, which change nothing."""
     near, zero, relabel = words_of(0.0, 2.0**-10, 0.5).split(" ")
     r = f"R {x32(RATE)}"
-    lines = [f"{r} {near}", f"{r} {near} {zero}", f"{r} {near} {zero} {relabel} {relabel}", f"{r} {near} {zero} {zero}", f"{r} {relabel} {zero} {relabel}",
+    lines = [f"{r} {x64(0.25)}", f"{r} {near} {zero}", f"{r} {near} {zero} {relabel} {relabel}", f"{r} {near} {zero} {zero}", f"{r} {relabel} {zero} {relabel}",
              f"{r} {near} {relabel} {zero}", f"{r} {near} {zero} {relabel} ", f"{r}  {near} {zero} {relabel}", f"{r} {near} {zero} 3f000000", f"{r} {relabel}",
              f"R {near} {zero} {relabel}", f"r {x32(RATE)} {near} {zero} {relabel}", f"R {near} {near} {zero} {relabel}", f"{r} {near} {zero} 3F0000000"]
     yield "unknown lines of players with tolerances", [R(), C(ramp(3)), S(), *lines, "Z", B(), "Z"]

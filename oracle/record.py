@@ -2,8 +2,8 @@
 """Makes the recorded answers: crates/replay/stdin, the scripts, and crates/replay/stdout, what the oracle answers.
 
 The scripts are the named ones of oracle/named.py and short random ones of a fixed seed; behind them the same with
-calls in cents, behind these the same with previews, then with conversions, and then with tolerances, so that the earlier
-ones stay as they were. Builds the oracle and its counting copy (oracle/build.py) and prints which way each condition of the original went.
+calls in cents, behind these the same with previews, then with conversions, with tolerances, and then with ramps, so that the
+earlier ones stay as they were. Builds the oracle and its counting copy (oracle/build.py) and prints which way each condition of the original went.
 """
 import json
 import subprocess
@@ -13,14 +13,16 @@ from pathlib import Path
 
 sys.path.insert(0, str(Path(__file__).resolve().parent.parent / "tools"))
 from named import conversions, in_cents, named, previews
+from named_ramps import ramps
 from named_tolerances import tolerances
+from ramps import has_ramp
 from scripts import Generator, converted_frames
 from tolerances import has_own
 
 from shared import ORACLE, TOP, must, options
 
-SEED, SEED_PREVIEWS, SEED_CONVERSIONS, SEED_TOLERANCES = 20261115, 20261116, 20261127, 20261201
-RANDOM, RANDOM_CENTS, RANDOM_PREVIEWS, RANDOM_CONVERSIONS, RANDOM_TOLERANCES = 240, 60, 60, 60, 60
+SEED, SEED_PREVIEWS, SEED_CONVERSIONS, SEED_TOLERANCES, SEED_RAMPS = 20261115, 20261116, 20261127, 20261201, 20261202
+RANDOM, RANDOM_CENTS, RANDOM_PREVIEWS, RANDOM_CONVERSIONS, RANDOM_TOLERANCES, RANDOM_RAMPS = 240, 60, 60, 60, 60, 60
 LARGEST_TEXT, LARGEST_ANSWER = 2000, 2000
 
 # Conditions that are always true (docs/DIFFERENCES.md, B15), by line of the original.
@@ -53,8 +55,10 @@ def by_hand(scripts):
 
 
 def fits(generator, units, script):
-    """Whether a script has what its generator makes beyond the earlier ones: tolerances, conversions by a real change, previews, or calls
-    in cents."""
+    """Whether a script has what its generator makes beyond the earlier ones: a ramp that is played, tolerances, conversions by a real change,
+    previews, or calls in cents."""
+    if generator.ramps:
+        return any(map(has_ramp, units)) and "\nB " in script
     if generator.tolerances:
         return any(map(has_own, units))
     if generator.conversions:
@@ -79,13 +83,14 @@ def at_random(name, count, generator):
 
 def chosen():
     """The scripts that are recorded; none of them makes the original panic."""
-    made = partial(Generator, previews=False, conversions=False, tolerances=False)
+    made = partial(Generator, previews=False, conversions=False, tolerances=False, ramps=False)
     plain, in_cents_too = made(SEED, cents=False), made(SEED)
     scripts = [*by_hand(named()), *at_random("random", RANDOM, plain)]
     scripts += [*by_hand(in_cents()), *at_random("random, in cents", RANDOM_CENTS, in_cents_too)]
     scripts += [*by_hand(previews()), *at_random("random, with previews", RANDOM_PREVIEWS, made(SEED_PREVIEWS, previews=True))]
     scripts += [*by_hand(conversions()), *at_random("random, with conversions", RANDOM_CONVERSIONS, made(SEED_CONVERSIONS, conversions=True))]
-    scripts += [*by_hand(tolerances()), *at_random("random, with tolerances", RANDOM_TOLERANCES, Generator(SEED_TOLERANCES))]
+    scripts += [*by_hand(tolerances()), *at_random("random, with tolerances", RANDOM_TOLERANCES, Generator(SEED_TOLERANCES, ramps=False))]
+    scripts += [*by_hand(ramps()), *at_random("random, with ramps", RANDOM_RAMPS, Generator(SEED_RAMPS))]
     return "".join(scripts).encode(), len(scripts)
 
 

@@ -7,6 +7,7 @@ import math
 import random
 import struct
 
+from ramps import Ramper
 from tolerances import Tuner, relabel_distance
 
 from shared.bits import single, x32, x64
@@ -104,20 +105,25 @@ def make_pools(rng, size):
 class Generator:
     POOL = 80000
 
-    def __init__(self, seed, cents=True, previews=True, conversions=True, tolerances=True):
+    def __init__(self, seed, cents=True, previews=True, conversions=True, tolerances=True, ramps=True):
         """Without `cents` the scripts have no `D` lines: the first ones that were recorded are made so. Previews, and conversions
         beside those of `buffer_call`, are strewn in by copies that draw by themselves, and tolerances on `R` and `Q` lines are drawn
-        apart too: without them the scripts of a seed are the same in all else."""
+        apart too: without them the scripts of a seed are the same in all else. Ramps come last, and by a copy too: a script that gets
+        none is the one that it was."""
         self.rng = random.Random(seed)
         self.cents = cents
         self.previews = previews
         self.conversions = conversions
         self.tolerances = tolerances
+        self.ramps = ramps
         self.pools = make_pools(self.rng, self.POOL)
         self.meter, self.converter = copy.copy(self), copy.copy(self)
         self.meter.rng = random.Random(f"{seed} previews")
         self.converter.rng = random.Random(f"{seed} conversions")
         self.tuner = Tuner(random.Random(f"{seed} tolerances"))
+        maker = copy.copy(self)
+        maker.rng = random.Random(f"{seed} ramps")
+        self.ramper = Ramper(maker)
 
     # ------------------------------------------------------------ numbers
 
@@ -399,7 +405,9 @@ class Generator:
             units = self.meter.strewn(units)
         if self.conversions:
             units = self.converter.with_conversions(units)
-        return self.tuner.tuned(units) if self.tolerances else units
+        if self.tolerances:
+            units = self.tuner.tuned(units)
+        return self.ramper.ramped(units) if self.ramps else units
 
     def with_conversions(self, units):
         """The script with up to two conversions before or behind its units."""

@@ -40,13 +40,20 @@ def relabel_distance(words):
 def has_own(unit):
     """Whether the unit is a line `R`, or a conversion, with tolerances."""
     letter, *words = unit.split("\n")[0].split(" ")
-    return letter == "R" and len(words) == 4 or letter == "Q" and len(words) == 7
+    return letter == "R" and len(words) in (4, 5) or letter == "Q" and len(words) == 7
 
 
 def takes_own(unit):
     """Whether the unit is a line `R`, or a conversion, that may have tolerances and has none."""
     letter, *words = unit.split("\n")[0].split(" ")
-    return letter == "R" and len(words) == 1 and len(words[0]) == 8 or letter == "Q" and len(words) == 4
+    return letter == "R" and len(words) in (1, 2) and len(words[0]) == 8 or letter == "Q" and len(words) == 4
+
+
+def with_own(head, tolerances):
+    """The first line of such a unit with these words of tolerances; those of an `R` come before its ramp."""
+    words = head.split(" ")
+    at = 2 if words[0] == "R" else len(words)
+    return " ".join([*words[:at], tolerances, *words[at:]])
 
 
 class Walk:
@@ -210,7 +217,7 @@ class Tuner:
             return unit
         head, *rest = unit.split("\n")
         tolerances = self.player(units) if head.startswith("R") else self.conversion(*head.split(" ")[3:])
-        return "\n".join([f"{head} {self.words(tolerances)}", *rest])
+        return "\n".join([with_own(head, self.words(tolerances)), *rest])
 
     def words(self, tolerances):
         """As words; some of them are refused."""

@@ -7,6 +7,7 @@ mod lists;
 mod player;
 mod positions;
 mod print;
+mod ramp;
 mod resampling;
 mod table;
 mod tape;
@@ -18,6 +19,7 @@ use buffers::{convert, copy_from, copy_to, extend, split, Shape};
 use cents::Entries;
 use player::Player;
 use print::{bits, calculated, flag, put_f64, put_runs};
+use ramp::Ramp;
 use std::io::{Read, Write};
 use std::panic::{catch_unwind, AssertUnwindSafe};
 use table::{check, row_13_block_time, row_14_rates, row_1_shape, row_2_rate, Refusal, FRAMES_MAX};
@@ -132,17 +134,19 @@ impl Machine {
             b"M" => self.block(b'M', words, Detune::factor),
             b"N" => self.block(b'N', words, Detune::cents),
             b"Z" if words.ended() => self.show(),
+            b"Y" if words.ended() => self.show_ramp(),
             b"S" | b"T" | b"P" | b"E" | b"L" => self.message(line),
             _ => Err(0),
         }
     }
 
     fn fresh(&mut self, line: &[u8]) -> Result<(), Refusal> {
-        let (rate, tolerances) = fresh(line).ok_or(0)?;
+        let (rate, tolerances, length) = fresh(line).ok_or(0)?;
         self.player = None;
         let tolerances = tolerances.made()?;
         row_2_rate(rate)?;
-        self.player = Some(Player::new(rate, tolerances, &self.alloc));
+        let ramp = Ramp::new(length)?;
+        self.player = Some(Player::new(rate, tolerances, ramp, &self.alloc));
         Ok(())
     }
 
@@ -250,7 +254,7 @@ impl Machine {
             copy = player.copied(&self.alloc);
             &mut copy
         };
-        let Ok(keep) = catch_unwind(AssertUnwindSafe(|| player.process(time, rate, factor))) else {
+        let Ok(keep) = catch_unwind(AssertUnwindSafe(|| player.play(time, rate, factor))) else {
             assert!(player.may_panic(), "a panic outside the excepted cases");
             self.out.extend_from_slice(b"P\n");
             self.player = None;
@@ -289,6 +293,22 @@ impl Machine {
         out.push(b'\n');
         Ok(())
     }
+
+    fn show_ramp(&mut self) -> Result<(), Refusal> {
+        let ramp = self.player.as_ref().ok_or(0)?.ramp;
+        let out = &mut self.out;
+        out.extend_from_slice(b"Y ");
+        put_decimal(out, ramp.length);
+        out.push(b' ');
+        put_decimal(out, ramp.count);
+        out.push(b' ');
+        match ramp.stop_sample {
+            Some(number) => put_decimal(out, number),
+            None => out.extend_from_slice(b"none"),
+        }
+        out.push(b'\n');
+        Ok(())
+    }
 }
 
 /// What the block that was just played answers.
@@ -308,12 +328,13 @@ fn put_block(out: &mut Vec<u8>, letter: u8, keep: bool, player: &Player) {
     }
 }
 
-/// The rate and the tolerances of a well-formed `R` line, not yet checked.
-fn fresh(line: &[u8]) -> Option<(f32, Tolerances)> {
+/// The rate, the tolerances and the ramp's length of a well-formed `R` line, not yet checked.
+fn fresh(line: &[u8]) -> Option<(f32, Tolerances, u64)> {
     let mut words = Words::of(line);
     let letter = words.word();
-    let made = (words.f32().ok()?, Tolerances::of(&mut words).ok()?);
-    (letter == b"R" && words.ended()).then_some(made)
+    let (rate, tolerances) = (words.f32().ok()?, Tolerances::of(&mut words).ok()?);
+    let length = if words.ended() { 0 } else { words.decimal().ok()? };
+    (letter == b"R" && words.ended()).then_some((rate, tolerances, length))
 }
 
 pub fn main() {

@@ -1,15 +1,21 @@
 -- A line, cut at its first space. Assumes nothing.
-use Rattle.std.proofs.Common.{◌≡◌, refl, ℕ, suc, ◌+◌, ◌-◌, ◌≤◌, Bool, true, false, eqb, ltb, List, [], ◌∷◌, length, length-drop, take, drop, Option, Some, None, arith, tests}
+use Rattle.std.proofs.Common.{◌≡◌, refl, ℕ, suc, ◌+◌, ◌-◌, ◌≤◌, Bool, true, false, eqb, leb, ltb, List, [], ◌∷◌, length, length-drop, take, drop, Option, Some, None, arith, tests}
 use Rattle.std.specs.List.{slice_split, position, position_or_len}
 use Rattle.std.proofs.lemmas.List.{take_all}
 use Rattle.std.proofs.lemmas.Bool.{ltb-true}
 use Rattle.std.proofs.lemmas.List.Splits.{slice_split_first, length-slice_split}
-use Rattle.protocol.specs.Words.{words, one, Gives}
+use Rattle.protocol.specs.Words.{words, behind, one, Gives}
 
 -- a line has a word
 pub some_word : (line : List ℕ) → eqb (length (words line)) 0 ≡ false
 unfolding words
 some_word line = rw (length-slice_split (λ b. eqb b 32) line) (grind (arith, tests))
+
+-- no word behind the next one
+pub at_most_one : (ws : List (List ℕ)) → eqb (length (behind ws)) 0 ≡ leb (length ws) 1
+unfolding behind
+at_most_one [] = refl
+at_most_one (w ∷ ws) = grind (arith, tests)
 
 whole_step : (p : ℕ → Bool) (x : ℕ) (xs : List ℕ) (b : Bool) → p x ≡ b → (length xs ≤ position_or_len p xs → slice_split p xs ≡ xs ∷ [])
     → length (x ∷ xs) ≤ position_or_len p (x ∷ xs) → slice_split p (x ∷ xs) ≡ (x ∷ xs) ∷ []

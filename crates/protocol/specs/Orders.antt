@@ -18,7 +18,7 @@ use Rattle.protocol.specs.declared.orders.Request.{Request}
 use Rattle.protocol.specs.declared.orders.Order.{Order}
 use Rattle.protocol.specs.declared.orders.Order.TheVariants as orders
 use Rattle.protocol.specs.Numbers.{decimal, decimal_up_to, f32_word, f64_word, i32_word, flag_word}
-use Rattle.protocol.specs.Words.{Reads, one, ◌>>=◌, give, optional, whole}
+use Rattle.protocol.specs.Words.{Reads, one, ◌>>=◌, give, optional, optional_before_last, whole}
 
 -- the values of a copy, and of a block or a preview
 pub record Copied : Type 0 where
@@ -36,11 +36,12 @@ pub record Asked : Type 0 where
 
 -- what an order asks for
 pub data Line : Type 0 where
-  Fresh : Float → Result Tolerances Refusal → Line
+  Fresh : Float → Result Tolerances Refusal → ℕ → Line
   Message : ControlMessage → Line
   Block : Asked → Line
   Preview : Asked → Line
   Show : Line
+  ShowRamp : Line
   Clip : Shape → Line
   CopyFrom : Copied → Line
   CopyTo : Copied → Line
@@ -64,11 +65,12 @@ line_of_call (calls.Split s point) = Split s point
 line_of_call (calls.Convert s wanted t) = Convert s wanted (Ok t)
 
 abbrev pub line_of : Order → Line
-line_of (orders.Fresh r t) = Fresh r t
+line_of (orders.Fresh r t ramp) = Fresh r t ramp
 line_of (orders.Message m) = Message m
 line_of (orders.Block q) = Block (asked q)
 line_of (orders.Preview q) = Preview (asked q)
 line_of orders.Show = Show
+line_of orders.ShowRamp = ShowRamp
 line_of (orders.Call c) = line_of_call c
 line_of (orders.Convert s wanted t) = Convert s wanted t
 
@@ -99,9 +101,20 @@ shape = do
   rate ← f32
   give (record { channels = channels; frames = frames; rate = rate })
 
--- `[f64 f64 f32]`: 'near, near zero, relabel', 'all three or none', made where the line is read; none are 'the defaults'
+-- `f64 f64 f32`: 'near, near zero, relabel', made where the line is read
+unfoldable pub three_tolerances : Reads (Result Tolerances Refusal)
+three_tolerances = f64 >>= λ near. f64 >>= λ near_zero. f32 >>= λ relabel. give (made near near_zero relabel)
+
+-- 'all three or none'; none are 'the defaults'
 unfoldable pub tolerances : Reads (Result Tolerances Refusal)
-tolerances = optional (Ok defaults) (f64 >>= λ near. f64 >>= λ near_zero. f32 >>= λ relabel. give (made near near_zero relabel))
+tolerances = optional (Ok defaults) three_tolerances
+
+-- `[f64 f64 f32] [dec]`: a player's tolerances, and 'the length of the player's ramp', '0 where there is none'
+unfoldable pub own_tolerances : Reads (Result Tolerances Refusal)
+own_tolerances = optional_before_last (Ok defaults) three_tolerances
+
+unfoldable pub ramp : Reads ℕ
+ramp = optional 0 dec
 
 -- the words that there is room for (oracle/README.md, 'Our side'), and 'Buffers of KF and KT are at 48,000 (473B8000)'
 abbrev pub ROOM : ℕ
@@ -140,7 +153,7 @@ request read_speed = do
 -- the words behind a line's name
 unfoldable pub named : List ℕ → Reads Line
 named name =
-    cond (bytes_eq name (codes "R")) (f32 >>= λ r. tolerances >>= λ t. give (Fresh r t))
+    cond (bytes_eq name (codes "R")) (f32 >>= λ r. own_tolerances >>= λ t. ramp >>= λ n. give (Fresh r t n))
     (cond (bytes_eq name (codes "S")) (f64 >>= λ start. f64 >>= λ offset. f64 >>= λ duration. give (Message (Start start offset duration)))
     (cond (bytes_eq name (codes "T")) (f64 >>= λ x. give (Message (Stop x)))
     (cond (bytes_eq name (codes "P")) (f64 >>= λ x. give (Message (LoopStart x)))
@@ -151,13 +164,14 @@ named name =
     (cond (bytes_eq name (codes "M")) (request factor >>= λ q. give (Preview q))
     (cond (bytes_eq name (codes "N")) (request cents >>= λ q. give (Preview q))
     (cond (bytes_eq name (codes "Z")) (give Show)
+    (cond (bytes_eq name (codes "Y")) (give ShowRamp)
     (cond (bytes_eq name (codes "C")) (shape >>= λ s. give (Clip s))
     (cond (bytes_eq name (codes "KF")) (copy >>= λ c. give (CopyFrom c))
     (cond (bytes_eq name (codes "KT")) (copy >>= λ c. give (CopyTo c))
     (cond (bytes_eq name (codes "J")) (shape >>= λ s. shape >>= λ t. give (Extend s t))
     (cond (bytes_eq name (codes "V")) (shape >>= λ s. dec >>= λ point. give (Split s point))
     (cond (bytes_eq name (codes "Q")) (shape >>= λ s. f32 >>= λ wanted. tolerances >>= λ t. give (Convert s wanted t))
-    (λ ws. None)))))))))))))))))
+    (λ ws. None))))))))))))))))))
 
 -- the order that the words of a line are
 unfoldable pub order : List (List ℕ) → Option Line

@@ -1,5 +1,5 @@
 -- The words of a line (oracle/PROTOCOL.md, 'Lines and words'). Definitions only.
-use Rattle.std.specs.Prelude.{◌≡◌, List, [], ◌∷◌, ℕ, cond, eqb, length, Option, Some, None, option_map}
+use Rattle.std.specs.Prelude.{◌≡◌, List, [], ◌∷◌, ℕ, cond, eqb, leb, length, Option, Some, None, option_map}
 use Rattle.std.specs.Borrow.{Bor}
 use Rattle.std.specs.List.{slice_split}
 use Rattle.protocol.specs.declared.words.Words.{Words}
@@ -46,6 +46,10 @@ abbrev pub ◌>>=◌ : {A B : Type 0} → Reads A → (A → Reads B) → Reads 
 -- `[p]`: x where no word is left
 abbrev pub optional : {A : Type 0} → A → Reads A → Reads A
 optional x p ws = cond (eqb (length ws) 0) (Some (x, ws)) (p ws)
+
+-- `[p]` in front of a last word that may be there: x where no more than that is left
+abbrev pub optional_before_last : {A : Type 0} → A → Reads A → Reads A
+optional_before_last x p ws = cond (leb (length ws) 1) (Some (x, ws)) (p ws)
 
 -- the value that all of the words are
 abbrev pub whole_read : {A : Type 0} → Option (A × List (List ℕ)) → Option A

@@ -46,16 +46,18 @@ pub struct Request {
 /// A fresh player's tolerances and a conversion's are made where the line is read, and may be refused.
 #[derive(Clone, Copy)]
 pub enum Order {
-    /// `R`: a fresh player of this rate in hertz, with these tolerances.
-    Fresh(f32, Result<Tolerances, Refusal>),
+    /// `R`: a fresh player of this rate in hertz, with these tolerances, and a ramp of so many frames.
+    Fresh(f32, Result<Tolerances, Refusal>, usize),
     /// `S`, `T`, `P`, `E` and `L`: a message.
     Message(ControlMessage),
     /// `B` and `D`: a block.
     Block(Request),
     /// `M` and `N`: a preview.
     Preview(Request),
-    /// `Z`: what the player's record has.
+    /// `Z`: what the player's record has, but for the ramp.
     Show,
+    /// `Y`: what its ramp has.
+    ShowRamp,
     /// `C`, `KF`, `KT`, `J` and `V`: a call that waits for words.
     Call(Call),
     /// `Q`: a conversion of this shape to this rate in hertz.
@@ -139,7 +141,7 @@ impl Order {
         ensures { Gives line_of result (left words.new) (named name.now (left words.old)) }
     {
         Some(match name {
-            b"R" => Order::Fresh(words.f32()?, words.tolerances()?),
+            b"R" => Order::Fresh(words.f32()?, words.own_tolerances()?, words.ramp()?),
             b"S" => Order::Message(ControlMessage::Start(words.f64()?, words.f64()?, words.f64()?)),
             b"T" => Order::Message(ControlMessage::Stop(words.f64()?)),
             b"P" => Order::Message(ControlMessage::LoopStart(words.f64()?)),
@@ -150,6 +152,7 @@ impl Order {
             b"M" => Order::Preview(Request::read(words, Speed::factor)?),
             b"N" => Order::Preview(Request::read(words, Speed::cents)?),
             b"Z" => Order::Show,
+            b"Y" => Order::ShowRamp,
             b"C" => Order::Call(Call::Clip(words.shape()?)),
             b"KF" => Order::Call(Call::CopyFrom(ChannelCopy::read(words)?)),
             b"KT" => Order::Call(Call::CopyTo(ChannelCopy::read(words)?)),

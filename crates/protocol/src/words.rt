@@ -14,10 +14,10 @@ pub(crate) struct Words<'a> {
 }
 
 impl<'a> Words<'a> {
-    ghost use Rattle.std.specs.Prelude.{◌≡◌, ◌≤◌, length, eqb, IfSome, Some};
+    ghost use Rattle.std.specs.Prelude.{◌≡◌, ◌≤◌, length, eqb, leb, IfSome, Some};
     ghost use Rattle.protocol.specs.Numbers.{decimal, decimal_up_to, hex, f32_word, f64_word, i32_word, flag_word};
     ghost use Rattle.protocol.specs.Words.{words, left, Gives, Takes};
-    ghost use Rattle.protocol.specs.Orders.{shape, tolerances};
+    ghost use Rattle.protocol.specs.Orders.{shape, three_tolerances, tolerances, own_tolerances, ramp};
 
     /// The words of a line.
     #[tactic(auto, unfolding(crate::specs::Words::words_of_rest))]
@@ -33,6 +33,16 @@ impl<'a> Words<'a> {
         ensures { result ≡ eqb (length (left self.now)) 0 }
     {
         self.rest.is_none()
+    }
+
+    /// Whether no more than one word is left.
+    #[tactic(auto, using(crate::proofs::Cuts::at_most_one))]
+    pub fn is_last_at_most(&self) -> bool
+        ensures { result ≡ leb (length (left self.now)) 1 }
+    {
+        let mut behind = *self;
+        behind.word();
+        behind.is_empty()
     }
 
     /// The next word.
@@ -125,7 +135,15 @@ impl<'a> Words<'a> {
         })
     }
 
-    /// Tolerances, made at once: near, near zero and relabel; the defaults where no word is left.
+    // Near, near zero and relabel, made at once.
+    #[tactic(auto, unfolding(crate::specs::Orders::three_tolerances))]
+    fn three_tolerances(&mut self) -> Option<Result<Tolerances, Refusal>>
+        ensures { Gives (λ t. t) result (left self.new) (three_tolerances (left self.old)) }
+    {
+        Some(Tolerances::new(self.f64()?, self.f64()?, self.f32()?))
+    }
+
+    /// Tolerances; the defaults where no word is left.
     #[tactic(auto, unfolding(crate::specs::Orders::tolerances))]
     pub fn tolerances(&mut self) -> Option<Result<Tolerances, Refusal>>
         ensures { Gives (λ t. t) result (left self.new) (tolerances (left self.old)) }
@@ -133,7 +151,29 @@ impl<'a> Words<'a> {
         if self.is_empty() {
             return Some(Ok(Tolerances::default()));
         }
-        Some(Tolerances::new(self.f64()?, self.f64()?, self.f32()?))
+        self.three_tolerances()
+    }
+
+    /// A player's tolerances, behind which its ramp may stand; the defaults where no more than that is left.
+    #[tactic(auto, unfolding(crate::specs::Orders::own_tolerances))]
+    pub fn own_tolerances(&mut self) -> Option<Result<Tolerances, Refusal>>
+        ensures { Gives (λ t. t) result (left self.new) (own_tolerances (left self.old)) }
+    {
+        if self.is_last_at_most() {
+            return Some(Ok(Tolerances::default()));
+        }
+        self.three_tolerances()
+    }
+
+    /// The length of a player's ramp, in frames; 0 where no word is left.
+    #[tactic(auto, unfolding(crate::specs::Orders::ramp))]
+    pub fn ramp(&mut self) -> Option<usize>
+        ensures { Gives (λ n. n) result (left self.new) (ramp (left self.old)) }
+    {
+        if self.is_empty() {
+            return Some(0);
+        }
+        self.decimal()
     }
 
     /// `0` or `1`.

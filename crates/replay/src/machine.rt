@@ -3,7 +3,7 @@ ghost use Rattle.std.specs.Prelude.{◌≤◌, length};
 
 use super::calls::{convert, copy_from, copy_to, extend, split};
 use super::failure::Failure;
-use super::report::{put_block, put_player};
+use super::report::{put_block, put_player, put_ramp};
 use buffer::{Refusal, Shape};
 use player::{ControlMessage, Player, PlayerOptions};
 use preview::Coming;
@@ -69,11 +69,12 @@ impl Machine {
             return Ok(put_line(rt, line)?);
         }
         match Order::read(line).ok_or(Failure::Unknown)? {
-            Order::Fresh(rate, tolerances) => self.restart(rate, tolerances),
+            Order::Fresh(rate, tolerances, ramp) => self.restart(rate, tolerances, ramp),
             Order::Message(message) => self.tell(message),
             Order::Block(request) => self.play(rt, request, clip, out),
             Order::Preview(request) => self.preview(rt, request, clip, out),
             Order::Show => Ok(put_player(rt, self.loaded()?.player)?),
+            Order::ShowRamp => Ok(put_ramp(rt, self.loaded()?.player)?),
             Order::Call(call) => self.begin(rt, call, Memory { clip, words, out }),
             Order::Convert(shape, rate, tolerances) => {
                 let call = Call::Convert(shape, rate, tolerances?);
@@ -91,11 +92,12 @@ impl Machine {
         &mut self,
         rate: f32,
         tolerances: Result<Tolerances, Refusal>,
+        ramp: usize,
     ) -> Result<(), Failure> {
         self.loaded = None;
         let options = PlayerOptions {
             tolerances: tolerances?,
-            ramp: 0,
+            ramp,
         };
         let player = Player::with_options(rate, options)?;
         self.loaded = Some(Loaded { player, clip: 0 });

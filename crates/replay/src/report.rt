@@ -33,7 +33,7 @@ fn put_messages(rt: &impl Print, p: Player) -> io::Result<()> {
     print!(rt; "Z {start} {stop} {offset} {duration} {looping} {loop_start} {loop_end}")
 }
 
-// The player's line.
+// The player's line; its ramp has a line of its own.
 pub(crate) fn put_player(rt: &impl Print, p: Player) -> io::Result<()> {
     put_messages(rt, p)?;
     let state = p.render_state;
@@ -48,6 +48,17 @@ pub(crate) fn put_player(rt: &impl Print, p: Player) -> io::Result<()> {
     print!(rt; " {position} {started} {entered} {elapsed} {aligned} {ended} {start} {buffer}")?;
     if p.has_block {
         println!(rt; " {}", Bits(p.block_time.0))
+    } else {
+        println!(rt; " none")
+    }
+}
+
+// The line of the player's ramp.
+pub(crate) fn put_ramp(rt: &impl Print, p: Player) -> io::Result<()> {
+    let ramp = p.ramp;
+    print!(rt; "Y {} {}", ramp.length, ramp.count)?;
+    if ramp.has_stop_sample {
+        println!(rt; " {}", ramp.stop_sample)
     } else {
         println!(rt; " none")
     }

@@ -2,6 +2,7 @@
 //! frames. tools/bench.c makes the same runs of ours.
 use super::buffers::Shape;
 use super::player::Player;
+use super::ramp::Ramp;
 use super::tolerances::Tolerances;
 use crate::render::Alloc;
 use std::hint::black_box;
@@ -34,7 +35,7 @@ fn shape(channels: usize, frames: usize, rate: f32) -> Shape {
 fn player(alloc: &Alloc, channels: usize, looped: bool, noise: bool) -> Player {
     let frames = if looped { 1_000 } else { 128 * (BLOCKS + 2) };
     let words = words(channels * frames, noise);
-    let mut player = Player::new(RATE, Tolerances::default(), alloc);
+    let mut player = Player::new(RATE, Tolerances::default(), Ramp::default(), alloc);
     player.clip(shape(channels, frames, RATE), &words).expect("a first clip");
     player.looping(looped);
     player.start(0.0, 0.0, f64::MAX).expect("a first start");

@@ -1,6 +1,7 @@
 //! The player: the original's source node and renderer. What the table refuses is refused here, everything else
 //! reaches the original.
 use super::buffers::Shape;
+use super::ramp::{Played, Ramp};
 use super::table::{check, row_2_rate, row_9_loop_point, row_9_time, Refusal};
 use super::tolerances::Tolerances;
 use crate::context::Context;
@@ -13,6 +14,7 @@ use std::cell::Cell;
 pub struct Player {
     rate: f32,
     pub tolerances: Tolerances,
+    pub ramp: Ramp,
     context: Context,
     node: AudioBufferSourceNode,
     pub outputs: [AudioRenderQuantum; 1],
@@ -21,13 +23,14 @@ pub struct Player {
 }
 
 impl Player {
-    pub fn new(rate: f32, tolerances: Tolerances, alloc: &Alloc) -> Self {
+    pub fn new(rate: f32, tolerances: Tolerances, ramp: Ramp, alloc: &Alloc) -> Self {
         let context = Context::default();
         let node = AudioBufferSourceNode::new(&context, AudioBufferSourceOptions::default());
         let outputs = [AudioRenderQuantum::from(alloc.silence())];
         Player {
             rate,
             tolerances,
+            ramp,
             context,
             node,
             outputs,
@@ -36,11 +39,11 @@ impl Player {
         }
     }
 
-    /// A copy for a preview: the renderer and the tolerances, with an output of its own. The node is a new one, and is sent no
+    /// A copy for a preview: the renderer, the tolerances and the ramp, with an output of its own. The node is a new one, and is sent no
     /// messages.
     pub fn copied(&self, alloc: &Alloc) -> Self {
         let renderer = self.context.renderer.borrow().as_ref().unwrap().copied();
-        let copy = Player::new(self.rate, self.tolerances, alloc);
+        let copy = Player::new(self.rate, self.tolerances, self.ramp, alloc);
         *copy.context.renderer.borrow_mut() = Some(renderer);
         Player {
             shape: self.shape,
@@ -73,6 +76,7 @@ impl Player {
         row_9_time(when)?;
         check(self.has_start(), 11)?;
         self.node.stop_at(when);
+        self.ramp.stopped(&self.state(), self.rate);
         Ok(())
     }
 
@@ -107,6 +111,20 @@ impl Player {
         let mut slot = self.context.renderer.borrow_mut();
         let renderer = slot.as_mut().unwrap();
         renderer.process(&[], &mut self.outputs, params, &scope)
+    }
+
+    /// Keep-alive of a block, whose samples are then ramped.
+    pub fn play(&mut self, time: f64, rate: f32, factor: f64) -> bool {
+        let before = self.state();
+        let keep_alive = self.process(time, rate, factor);
+        let block = Played {
+            time,
+            rate: self.rate,
+            before,
+            after: self.state(),
+        };
+        self.ramp.ramp(&block, &mut self.outputs[0]);
+        keep_alive
     }
 
     /// After a panic of `process`: whether it is one of the two cases of docs/REFERENCE.md, 'Scope and judges'. The

@@ -3,6 +3,7 @@
 //! frames a block, in frames.
 use super::buffers::Shape;
 use super::player::Player;
+use super::ramp::Ramp;
 use super::tolerances::Tolerances;
 use crate::render::Alloc;
 
@@ -10,7 +11,7 @@ const BLOCKS: usize = 131_072;
 
 /// The largest error while the player has not ended; each is one product and difference, rounded once.
 fn largest_error(alloc: &Alloc, rate: f32, words: &[u32]) -> f64 {
-    let mut player = Player::new(rate, Tolerances::default(), alloc);
+    let mut player = Player::new(rate, Tolerances::default(), Ramp::default(), alloc);
     let shape = Shape {
         channels: 1,
         frames: words.len() as u64,

@@ -58,3 +58,8 @@ pub fn row_16_cents(cents: i32) -> Result<(), Refusal> {
 pub fn row_18_tolerance(value: f64) -> Result<(), Refusal> {
     check(value.is_finite() && !(value < 0.0 || value > 1.0), 18)
 }
+
+/// A ramp's length in frames.
+pub fn row_19_ramp(length: u64) -> Result<(), Refusal> {
+    check(length <= 48_000, 19)
+}

@@ -1,6 +1,7 @@
 //! `replay tape SEED LISTS`: the loop switch during playback. Random lists of blocks and loop messages
 //! (lists.rs) are played on the original and followed by the tape of docs/REFERENCE.md, 'The loop switch'.
 use super::lists::{list, Call, List, Random};
+use super::ramp::Ramp;
 use super::table::row_13_block_time;
 use super::tolerances::Tolerances;
 use super::Machine;
@@ -177,7 +178,7 @@ fn refused(machine: &mut Machine, lines: &str, number: u8) -> Result<(), String>
 
 /// Plays a list on both, up to the first call where they differ.
 fn follow(machine: &mut Machine, list: &List, tally: &mut Tally) -> Result<(), String> {
-    machine.player = Some(super::Player::new(list.rate, Tolerances::default(), &machine.alloc));
+    machine.player = Some(super::Player::new(list.rate, Tolerances::default(), Ramp::default(), &machine.alloc));
     let mut tape = Tape::new(list.frames);
     for (n, call) in list.calls.iter().enumerate() {
         let player = machine.player.as_mut().ok_or("no player")?;

@@ -24,6 +24,11 @@ impl<'a> Words<'a> {
         self.rest.is_none()
     }
 
+    /// How many words are left.
+    pub fn left(&self) -> usize {
+        self.rest.map_or(0, |rest| rest.split(|b| *b == b' ').count())
+    }
+
     pub fn decimal(&mut self) -> Result<u64, u8> {
         decimal(self.word())
     }

@@ -22,9 +22,9 @@ impl Default for Tolerances {
 }
 
 impl Tolerances {
-    /// The three words that end a line, not yet checked; the defaults where none are left.
+    /// The next three words, not yet checked; the defaults where fewer than two are left.
     pub fn of(words: &mut Words) -> Result<Self, Refusal> {
-        if words.ended() {
+        if words.left() < 2 {
             return Ok(Tolerances::default());
         }
         Ok(Tolerances {
