@@ -113,7 +113,13 @@ typedef struct {
 } netthimble_tolerances;
 
 /* What a player is made with, beside its output rate. To be taken from netthimble_default_options and then altered: more may stand in it one day.
- * Zeroed options are not the defaults: they test for equality alone, and a sound then begins a sample late now and then. */
+ * Zeroed options are not the defaults: they test for equality alone, and a sound then begins a sample late now and then.
+ *
+ * With a ramp of R frames each sample is multiplied by the factor of its number, which counts from the starting sample, number 0: by
+ * number / R below R, and where a stop is known by (stop_sample - number) / R within R samples of it, and 0 from it on; by the smaller of two,
+ * and between the ramps by none. So the sound rises from its start, and falls to its stop, by 1 / R a sample. A stop is to be told before the
+ * block of sample stop_sample - R + 1: told later it lets the level fall at once, which clicks. A clip's end and a duration are no stops. All
+ * but the samples' bits is as without a ramp (docs/RULE.md, 'With a ramp'). */
 typedef struct {
     netthimble_tolerances tolerances;
     size_t ramp; /* frames of the ramp at onset and at the stop, 0 to 48,000; 0, the default, is none */

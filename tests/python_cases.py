@@ -36,8 +36,9 @@ from shared import CC, TOP, Checks, library, options, program, run, subject  # n
 
 sys.path.insert(0, str(TOP / "python"))
 HANDED = "( [0-9A-F]{16} [0-9A-F]{16} [0-9A-F]{8})?"  # tolerances
+RAMP = "( [0-9]{1,19})?"
 SHAPE, WORD, LONG = "[0-9]{1,9} [0-9]{1,9} [0-9A-F]{8}", "[0-9A-F]{8}", "[0-9A-F]{16}"
-FORMS = f"R .*|#.*|C {SHAPE}|Q {SHAPE} {WORD}{HANDED}|W( {WORD})+|S( {LONG}){{3}}|[TPE] {LONG}|L [01]|[BM] {LONG} {WORD} {LONG}|[DN] {LONG} {WORD} {WORD}"
+FORMS = f"R .*|Y|#.*|C {SHAPE}|Q {SHAPE} {WORD}{HANDED}|W( {WORD})+|S( {LONG}){{3}}|[TPE] {LONG}|L [01]|[BM] {LONG} {WORD} {LONG}|[DN] {LONG} {WORD} {WORD}"
 NAN, INF = float("nan"), float("inf")
 check = Checks("python")
 
@@ -125,7 +126,7 @@ def recorded_scripts():
     """The recorded scripts that use no more than the package has: a clip, messages, blocks and conversions. `Z` only prints, and is left out."""
     scripts = []
     for line in (TOP / "crates/replay/stdin").read_text().removesuffix("\n").split("\n"):
-        if re.fullmatch("R [0-9A-F]{8}" + HANDED, line):
+        if re.fullmatch("R [0-9A-F]{8}" + HANDED + RAMP, line):
             scripts.append([])
         if line != "Z":
             scripts[-1].append(line)
@@ -151,7 +152,13 @@ def replay(lines):
                 out.append(line + "\n")
             elif w[0] == "R":
                 player = None
-                player = netthimble.Player(f32(w[1]), tolerances=handed(w[2:]))
+                own, length = (w[2:-1], w[-1]) if len(w) in (3, 6) else (w[2:], "0")
+                if not re.fullmatch(RAMP, " " + length):
+                    return None
+                player = netthimble.Player(f32(w[1]), tolerances=handed(own), ramp=int(length))
+            elif line == "Y" and player is not None:
+                stop = player.stop_sample
+                out.append(f"Y {player.ramp} {player.ramp_count} {'none' if stop is None else stop}\n")
             elif player is None and w[0] not in "QW":
                 out.append("X 0\n")
             elif w[0] in "CQ":

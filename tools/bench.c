@@ -2,26 +2,34 @@
    Blocks are called from Rattle (crates/player_c), as the Rust's from Rust, and once more through the C library: names with `-c`, and
    with `-cents` where the call is the one in cents: at 0 of them, and below at others. `-preview` are previews of the
    players that stand before the first 256 blocks of a run, and `-shown` the block call on copies of them. `-ahead` is a preview
-   before each block of a run, and `-twin` what a block takes in its place: the block call of a second player beside the first. `-count` are
+   before each block of a run, and `-twin` what a block takes in its place: the block call of a second player beside the first.
+   `-none`, `-outside` and `-inside` are blocks of a player without a ramp, past its rising ramp with a stop that is far off, and
+   within it. `-count` are
    blocks of a counting player. */
 #include <math.h>
 #include "measure.h"
 
 extern bool player_blocks(uint32_t *out, size_t out_len, const uint32_t *samples, size_t samples_len, size_t channels, size_t frames, bool looped, float rate, size_t blocks);
 
-enum { BLOCKS = 4000, STATES = 256, MILLION = 1000000 };
+enum { BLOCKS = 4000, STATES = 256, MILLION = 1000000, EARLIER = 8, SHORT_RAMP = 480, LONG_RAMP = 48000 };
 static const float RATE = 48000.0f;
 static uint32_t out[4096], second[4096];
 
-/* A player that has played nothing yet. */
-static netthimble_player begun(size_t channels, size_t frames, bool looped, const uint32_t *words) {
-    netthimble_told made = netthimble_new(RATE);
+/* A player that has played nothing yet, with a ramp of so many frames. */
+static netthimble_player begun_with(size_t ramp, size_t channels, size_t frames, bool looped, const uint32_t *words) {
+    netthimble_options options = netthimble_default_options();
+    options.ramp = ramp;
+    netthimble_told made = netthimble_new_with(RATE, options);
     netthimble_player p = made.player;
     must(made.refusal);
     must(netthimble_player_set_buffer(&p, channels, frames, RATE, words, channels * frames));
     must(netthimble_player_loop(&p, looped));
     must(netthimble_player_start(&p, 0.0, 0.0, 1.7976931348623157e308));
     return p;
+}
+
+static netthimble_player begun(size_t channels, size_t frames, bool looped, const uint32_t *words) {
+    return begun_with(0, channels, frames, looped, words);
 }
 
 static double from_rattle(size_t channels, size_t frames, bool looped, float rate, const uint32_t *words) {
@@ -90,6 +98,33 @@ static void ahead(const char *name, netthimble_player p, const uint32_t *words, 
     printf("%s-twin %.1f\n%s-ahead %.1f\n", name, twins / 2, name, with - twins / 2);
 }
 
+/* The block call from a player on that stands before block number EARLIER, for STATES blocks, and again from there. */
+static double stretches_of(netthimble_player before, const uint32_t *words, size_t len, float rate) {
+    netthimble_player p = before;
+    double t = now();
+    for (size_t n = 0; n < BLOCKS; n++) {
+        if (n % STATES == 0) p = before;
+        must(netthimble_player_process(&p, out, 4096, words, len, (double)(128 * (EARLIER + n % STATES)) / RATE, rate, 1.0).refusal);
+    }
+    return (now() - t) / BLOCKS;
+}
+
+/* The same blocks without a ramp, past the rising one and before the falling one, and all within the rising one. */
+static void ramped(const char *name, size_t channels, size_t frames, bool looped, const uint32_t *words, float rate) {
+    size_t ramps[] = {0, SHORT_RAMP, LONG_RAMP}, len = channels * frames;
+    const char *kinds[] = {"none", "outside", "inside"};
+    netthimble_player before[3];
+    double best[] = {1e300, 1e300, 1e300};
+    for (int k = 0; k < 3; k++) {
+        before[k] = begun_with(ramps[k], channels, frames, looped, words);
+        if (k > 0) must(netthimble_player_stop(&before[k], 1e6));
+        for (size_t n = 0; n < EARLIER; n++) must(netthimble_player_process(&before[k], out, 4096, words, len, (double)(128 * n) / RATE, rate, 1.0).refusal);
+    }
+    for (int turn = 0; turn < 3; turn++)
+        for (int k = 0; k < 3; k++) best[k] = fmin(best[k], stretches_of(before[k], words, len, rate));
+    for (int k = 0; k < 3; k++) printf("%s-%s %.1f\n", name, kinds[k], best[k]);
+}
+
 static double from_c(size_t channels, size_t frames, bool looped, float rate, const uint32_t *words, bool in_cents) {
     return blocks_of(begun(channels, frames, looped, words), words, channels * frames, rate, 0, in_cents);
 }
@@ -144,6 +179,7 @@ static void block(const char *name, size_t channels, bool looped, float rate, bo
     snprintf(label, sizeof label, "%s-%zu", name, channels);
     previewed(label, begun(channels, frames, looped, words), words, channels * frames, rate);
     ahead(label, begun(channels, frames, looped, words), words, channels * frames, rate);
+    ramped(label, channels, frames, looped, words, rate);
     free(words);
 }
 

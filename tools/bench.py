@@ -1,7 +1,7 @@
 #!/usr/bin/env python3
 """Measures ours beside the Rust original, in alternating rounds, both built for release: blocks, copies and conversions (1, 2 and 8 channels) of a
 million frames through the C library, and `trial` on 100,000 blocks. memcpy is the limit. A block in cents, a preview and a counting player's
-block are held against the block call too. Needs rt, cc, rustc and the Rust original (oracle/README.md).
+block are held against the block call too, and blocks outside a ramp and within it against those of a player without one. Needs rt, cc, rustc and the Rust original (oracle/README.md).
 """
 import statistics
 import struct
@@ -22,7 +22,10 @@ CALLS = [
     ("a preview, of saved players", "-preview", "-shown"),
     ("a preview, before each block", "-ahead", "-twin"),
     ("a counting player's block", "-count", "-c"),
+    ("outside both ramps", "-outside", "-none"),
+    ("inside a ramp", "-inside", "-none"),
 ]
+APART = tuple(ending for _, *endings in CALLS for ending in endings if ending not in ("-cents", "-c"))
 
 
 def times(command):
@@ -71,7 +74,7 @@ def show(ours, rust):
         return [times[name] for times in side]
 
     head("run", "ours, ns", "Rust, ns", "ratio in a round")
-    for name in (name for name in ours[0] if not name.endswith(("-shown", "-preview", "-twin", "-ahead", "-count"))):
+    for name in (name for name in ours[0] if not name.endswith(("-shown", "-preview", "-twin", "-ahead", "-count")APART)):
         a, other = column(ours, name), name.removesuffix("-c").removesuffix("-cents")
         if other not in rust[0]:
             row(name, f"{statistics.median(a):,.0f}", "", "")

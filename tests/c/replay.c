@@ -276,14 +276,21 @@ static void print_player(void) {
     else printf(" none\n");
 }
 
-/* Makes a player, with tolerances where the words name them; false where they are no such line. */
+static void print_ramp(void) {
+    printf("Y %zu %" PRIu64, player.ramp.length, player.ramp.count);
+    if (player.ramp.has_stop_sample) printf(" %" PRIu64 "\n", player.ramp.stop_sample);
+    else printf(" none\n");
+}
+
+/* Makes a player, with tolerances and a ramp where the words name them; false where they are no such line. */
 static bool make_player(const word *w, size_t count) {
     float sample_rate, relabel;
     double near, near_zero;
     netthimble_options options = netthimble_default_options();
     uint32_t refusal = 0;
-    if ((count != 2 && count != 5) || !is(w[0], "R") || !f32_word(w[1], &sample_rate)) return false;
-    if (count == 5) {
+    if ((count != 2 && count != 3 && count != 5 && count != 6) || !is(w[0], "R") || !f32_word(w[1], &sample_rate)) return false;
+    if (count % 3 == 0 && !dec(w[count - 1], &options.ramp)) return false;
+    if (count >= 5) {
         if (!f64_word(w[2], &near) || !f64_word(w[3], &near_zero) || !f32_word(w[4], &relabel)) return false;
         refusal = netthimble_tolerances_set(&options.tolerances, near, near_zero, relabel);
     }
@@ -309,6 +316,7 @@ static void obey(const char *line, size_t len) {
     if (len > 0 && line[0] == '#') printf("%.*s\n", (int)len, line);
     else if (count > 0 && make_player(w, count)) return;
     else if (count == 1 && is(w[0], "Z") && has_player) print_player();
+    else if (count == 1 && is(w[0], "Y") && has_player) print_ramp();
     else if (count == 0 || !(first_line(w, count) || (has_player && (message(w, count) || block(w, count))))) printf("X 0\n");
 }
 
