@@ -20,6 +20,7 @@ use Rattle.clip.specs.Reading.{is_layout, form_of, clip_checks, read_as, read_wi
 use Rattle.clip.specs.Statement.{frames_of}
 use Rattle.clip.specs.declared.Form.{Form}
 use Rattle.clip.specs.declared.ClipHeader.{ClipHeader}
+use Rattle.clip.proofs.HeaderWords.{over_front}
 use Rattle.clip.proofs.LaidOut.{laid_out}
 use Rattle.player.specs.Messages.{made}
 use Rattle.player.specs.declared.Player.{Player}
@@ -27,7 +28,6 @@ use Rattle.obeying.specs.Obeying.{session_of}
 use Rattle.session.specs.Transcript.{transcript, no_words}
 use Rattle.loading.specs.Loading.{count_of, with_count, sent, sent_clip, samples_of, loaded}
 use Rattle.loading.specs.Playing.{clip_room, file_room, told}
-use Rattle.loading.proofs.Frames.{over_front}
 
 -- ---- a refusal's text
 pub text_stored : (t out out' : List ℕ) (n : ℕ) → Some n ≡ printed true t → out' ≡ printed_out true t out → length t ≤ length out
