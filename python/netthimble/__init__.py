@@ -16,8 +16,11 @@ The library is target/c/libnetthimble.so of this repository, or the file that th
 from .binding import FRAMES, NEVER
 from .clips import Clip, load, load_old
 from .errors import WORDS, Refused
+from .mending import Mended, mend
 from .players import Block, Player, factor
 from .tolerances import Tolerances
 
 __version__ = "1.2.0"
-__all__ = ["FRAMES", "NEVER", "WORDS", "Block", "Clip", "Player", "Refused", "Tolerances", "factor", "load", "load_old"]
+__all__ = [
+    "FRAMES", "NEVER", "WORDS", "Block", "Clip", "Mended", "Player", "Refused", "Tolerances", "factor", "load", "load_old", "mend",
+]  # fmt: skip

@@ -25,6 +25,7 @@ WORDS = {
     16: "cents outside -12,000..12,000",
     17: "a clip's onset that is not below its frames",
     18: "a tolerance that is not finite, or outside 0..1",
+    21: "a clip file to be mended of which not one frame for each channel remains",
 }
 
 

@@ -16,8 +16,8 @@ ghost use Rattle.clip.specs.Statement.{ClipFile, TwoReaders, WrittenClips};
 use buffer::Shape;
 pub use bytes::write_words;
 pub use reading::{
-    form_of, has_length, header_of, offsets_match, onset_at, read_clip, read_clip_with_onset,
-    read_frames, read_frames_with_onset,
+    form_of, has_length, header_of, offset_at, offsets_match, onset_at, read_clip,
+    read_clip_with_onset, read_frames, read_frames_with_onset,
 };
 pub use writing::{length_to_write, starts, write_clip};
 

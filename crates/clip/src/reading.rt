@@ -4,7 +4,7 @@ ghost use Rattle.std.specs.Prelude.{◌≡◌, ◌*◌, ◌<◌, length, true, I
 ghost use Rattle.buffer.specs.Answers.{check};
 ghost use Rattle.buffer.specs.Limits.{Valid};
 ghost use Rattle.buffer.specs.declared.refusals.Refusal.TheVariants as refused;
-ghost use Rattle.clip.specs.Reading.{ValidHeader, onset_field, offsets_match, is_layout, has_length, form_of, clip_checks, header_of, read_as, clip_read, read_with_onset};
+ghost use Rattle.clip.specs.Reading.{ValidHeader, onset_field, offset_field, offsets_match, is_layout, has_length, form_of, clip_checks, header_of, read_as, clip_read, read_with_onset};
 ghost use Rattle.clip.specs.Reading.{frames_read, frames_read_with_onset, header_read, room_checked, frames_out};
 
 use super::bytes::{read_words, u16_at, u32_at};
@@ -77,6 +77,13 @@ pub fn onset_at(form: Form, file: &[u8]) -> u32
         Form::Old => 0,
         Form::New => u32_at(file, 12),
     }
+}
+
+/// The offset that the header of one form has for a channel, unchecked.
+pub fn offset_at(form: Form, file: &[u8], channel: u16) -> u32
+    ensures { result ≡ offset_field form file.now channel }
+{
+    u32_at(file, 12 + form.onset_bytes() + 4 * usize::from(channel))
 }
 
 /// Whether the length that a header states is that of one form.

@@ -7,9 +7,9 @@ ghost use Rattle.clip.specs.Layout.{bytes, words, offset};
 ghost use Rattle.clip.specs.declared.Form.TheVariants as form;
 ghost use Rattle.clip.specs.Writing.{is_file, length_to_write, clip_written, written};
 
-use super::{Form, MAX_LENGTH};
 use super::bytes::write_words;
 use super::reading::{check_clip, check_layout};
+use super::{Form, MAX_LENGTH};
 use buffer::{Refusal, Shape};
 use rounding::BinaryFloat;
 

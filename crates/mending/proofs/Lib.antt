@@ -2,6 +2,6 @@
 mod Frames
 mod Again
 mod Marked
-mod MendedClips
+pub mod MendedClips
 mod Known
 mod Fields

@@ -65,8 +65,7 @@ number_mark n at file made room own below all =
     let a : ℕ = number n (drop at file) in
     let b : ℕ = number n (drop at made) in
     let p = number_part n at file room below in
-    let q = number_part n at made own all in
-    (
+    let q = number_part n at made own all in (
       (λ e. q ∙ ap (bytes n) (sym (eqb-true a b (unset (eqb a b) e))) ∙ sym p),
       (λ e. ap not (eq-eqb a b (same_number n a b (number_lt n _ (below_drop at file below)) (number_lt n _ (below_drop at made all)) (sym p ∙ sym e ∙ q)))),
     )
@@ -115,18 +114,16 @@ module _ (file : List ℕ) (lent : ℕ) (below : Below 256 file) (k : Mendable f
   offsets_mark =
       let p = words_part C (12 + E) file (omega (arith, k.room)) below in
       let q = words_part C (12 + E) (mended file) (omega (arith, long)) all in
-      let small : (l : List ℕ) → Below 256 l → (i : ℕ) → offset_field F l i < 2 ^ 32 = λ l h i. number_lt 4 _ (below_drop (12 + E + 4 * i) l h) in
-      (
+      let small : (l : List ℕ) → Below 256 l → (i : ℕ) → offset_field F l i < 2 ^ 32 = λ l h i. number_lt 4 _ (below_drop (12 + E + 4 * i) l h) in (
         (λ e. q ∙ ap words (table_same C (offset_field F (mended file)) (offset_field F file)
-        (λ c b. own_offset c b ∙ sym (eqb-true _ _ (each_at C c _ (unset _ e) b)))) ∙ sym p),
+            (λ c b. own_offset c b ∙ sym (eqb-true _ _ (each_at C c _ (unset _ e) b)))) ∙ sym p),
         (λ e. ap not (each_all C _ (λ c b. eq-eqb (offset_field F file c) (offset F C N c)
-        (same_word C (offset_field F file) (offset_field F (mended file)) (small file below) (small (mended file) all) (sym p ∙ sym e ∙ q) c b ∙ own_offset c b)))),
+            (same_word C (offset_field F file) (offset_field F (mended file)) (small file below) (small (mended file) all) (sym p ∙ sym e ∙ q) c b ∙ own_offset c b)))),
       )
 
   tail_mark : SetUnless (marks_of file).tail (length (mended file) ≡ length file)
   tail_mark =
-      let w = (fits file lent below k).0 in
-      (
+      let w = (fits file lent below k).0 in (
         (λ e. let none = ltb-false 0 (tail_size file) e in omega (arith, none, w, long)),
         (λ e. le-ltb _ _ (omega (arith, e, long))),
       )

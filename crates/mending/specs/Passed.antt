@@ -43,14 +43,16 @@ mend_passes file lent x y h =
     in
     let a = both (leb (length file) max_length) _ p.0 in
     let b = both (leb (header_of_file file) (length file)) (has_length (form_of file) file) a.1 in
-    let c = both (leb 1 (channels_field file)) (leb (channels_field file) max_channels) p.1 in
-    (record {
-      short = leb-true _ _ a.0;
-      room = leb-true _ _ b.0;
-      header = eqb-true _ _ b.1;
-      some = leb-true _ _ c.0;
-      few = leb-true _ _ c.1;
-      rate = p.2;
-      left = leb-true _ _ p.3;
-      lent_all = eqb-true _ _ p.4;
-    }, p.5)
+    let c = both (leb 1 (channels_field file)) (leb (channels_field file) max_channels) p.1 in (
+      record {
+        short = leb-true _ _ a.0;
+        room = leb-true _ _ b.0;
+        header = eqb-true _ _ b.1;
+        some = leb-true _ _ c.0;
+        few = leb-true _ _ c.1;
+        rate = p.2;
+        left = leb-true _ _ p.3;
+        lent_all = eqb-true _ _ p.4;
+      },
+      p.5,
+    )

@@ -115,7 +115,9 @@ fn hold(file: &[u8], lent: usize) -> Result<Held, Refusal>
 /// or of a header's length of neither form), 1 (channels), 2 (rate), 21 (not one frame for each
 /// channel), and 8 (length) for an output of another length.
 pub fn mend(file: &[u8], out: &mut [u8]) -> Result<Mended, Refusal>
-    ensures { (result ≡ mend_answer file.now (length out.old)) × (out.new ≡ mend_out result file.now out.old) }
+    ensures answer { (result ≡ mend_answer file.now (length out.old))
+        × (out.new ≡ mend_out result file.now out.old) }
+    ensures mendable { IfOk result (λ _. Mendable file.now (length out.old)) }
 {
     let held = hold(file, out.len())?;
     let channels = usize::from(held.channels);
@@ -138,4 +140,3 @@ pub fn known_mendings()
 pub fn mended_clips()
     ensures { MendedClips }
 {}
-

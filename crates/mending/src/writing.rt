@@ -18,7 +18,10 @@ pub(crate) fn write_mended(held: Held, file: &[u8], out: &mut [u8])
     let first = held.start as u32 + 65_536 * u32::from(held.channels);
     let frames = u32::from(held.frames);
     clip::write_words(&[first, frames, held.rate_bits, held.onset], fields);
-    clip::write_words(&clip::starts(held.form, held.channels, held.frames), offsets);
+    clip::write_words(
+        &clip::starts(held.form, held.channels, held.frames),
+        offsets,
+    );
     samples.copy_from_slice(&file[held.start..held.start + samples.len()]);
 }
 

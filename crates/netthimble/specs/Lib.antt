@@ -1,2 +1,3 @@
 -- What the calls for C answer.
 pub mod ForC
+pub mod Mending

@@ -16,8 +16,8 @@ answered : (file : List ℕ) (lent n : ℕ) (marks : Marks) → Mendable file le
     → Ok (record { length = n; tail_size = length file - n; marks = marks }) ≡ mend_answer file lent
 answered file lent n marks k size is = rw (pass_mend file lent k, size, is) refl
 
-pub returns : goal.returns
-returns c =
+pub returns-clause-answer : goal.returns-clause-answer
+returns-clause-answer c =
     let file = c.args.file.now in
     let lent = length c.args.out.now in
     let held = c.in_ok-held.held in
@@ -28,8 +28,7 @@ returns c =
     in
     let below = λ (i : ℕ). (c.type_inv.file i).fits in
     let long : length (mended file) ≡ mended_length file = length_is file lent below p.0 in
-    let within = (fits file lent below p.0).0 in
-    (
+    let within = (fits file lent below p.0).0 in (
       answered file lent _ c.marks.result p.0 size c.marks.ensures,
       rw (c.write_mended.ensures, size, ← long) (sym (over_front (mended file) c.args.out.now (omega (arith, long, within, p.0.lent_all)))),
     )
