@@ -85,7 +85,7 @@ enum {
     NETTHIMBLE_ONSET = 17,   /* clip with an onset: the onset is not below the frames */
     NETTHIMBLE_TOLERANCE = 18, /* tolerances: one that is not finite, or outside 0..1 */
     NETTHIMBLE_RAMP = 19,      /* making a player: a ramp of more than 48,000 frames */
-    NETTHIMBLE_STAIRCASE = 22  /* staircase: the step is 0 or over 20, start or threshold over 120, or the trials not 1..1,000 */
+    NETTHIMBLE_STAIRCASE = 22  /* staircase: the step is 0 or over 20, start or threshold over 120, or the trials not 1..1,000NETTHIMBLE_NOTHING_LEFT = 21 /* mending a clip file: not one frame for each channel remains */
 };
 
 /* ---- the records */
@@ -251,6 +251,23 @@ typedef struct {
     uint32_t refusal;
 } netthimble_tracked;
 
+
+/* What mending a clip file altered: each is true exactly where the bytes of that field, or the file's length, changed. */
+typedef struct {
+    bool frames;
+    bool offsets;
+    bool tail;
+    bool onset;
+} netthimble_marks;
+
+/* A mended clip file: its length, and the leftover bytes at the end that were dropped, fewer than one frame for each channel. */
+typedef struct {
+    size_t length;
+    size_t tail_size;
+    netthimble_marks marks;
+    uint32_t refusal;
+} netthimble_mended;
+
 #if defined(__cplusplus)
 #define NETTHIMBLE_HOLDS(name, fact) static_assert(fact, #name)
 #elif defined(__STDC_VERSION__) && __STDC_VERSION__ >= 201112L
@@ -333,6 +350,16 @@ NETTHIMBLE_AT(track, reversals, reversals, 2000);
 NETTHIMBLE_HOLDS(tracked_size, sizeof(netthimble_tracked) == 2016);
 NETTHIMBLE_AT(tracked, track, track, 0);
 NETTHIMBLE_AT(tracked, refusal, refusal, 2008);
+NETTHIMBLE_HOLDS(marks_size, sizeof(netthimble_marks) == 4);
+NETTHIMBLE_AT(marks, frames, frames, 0);
+NETTHIMBLE_AT(marks, offsets, offsets, 1);
+NETTHIMBLE_AT(marks, tail, tail, 2);
+NETTHIMBLE_AT(marks, onset, onset, 3);
+NETTHIMBLE_HOLDS(mended_size, sizeof(netthimble_mended) == 24);
+NETTHIMBLE_AT(mended, length, length, 0);
+NETTHIMBLE_AT(mended, tail_size, tail_size, 8);
+NETTHIMBLE_AT(mended, marks, marks, 16);
+NETTHIMBLE_AT(mended, refusal, refusal, 20);
 
 /* ---- the records' sizes */
 
@@ -437,6 +464,14 @@ netthimble_count netthimble_clip_length(netthimble_shape shape, size_t samples_l
 /* Writes a clip with its onset, and the new header, into `file`, which is exactly as long as netthimble_clip_length answers; the new reader
  * reads the same shape, onset and frames from it. Returns the refusal's number, 0 for none. Refused: 15, 1, 2, 17, 8; `file` is then untouched. */
 uint32_t netthimble_clip_write(netthimble_shape shape, uint32_t onset, const uint32_t *samples, size_t samples_len, uint8_t *file, size_t file_len);
+
+/* Mends a clip file with either header that was left as it was when the file was cut, or grew (docs/REFERENCE.md, 'Mending'): the frame
+ * count becomes the number of whole frames that the bytes behind the header hold for each channel, the offsets are rewritten, an onset at or
+ * past the frames becomes the last one, and leftover bytes at the end are dropped. Every other byte stays in its place: so with two channels
+ * the second one's sound moves where the file was cut. The mended file stands at the start of `out`, which is just as long as `file` and
+ * does not overlap it; what `out` holds behind it stays. Refused: 15 (a file over 65,536 bytes, shorter than its header, or whose header's
+ * length is neither form's), 1 (channels not 1..32), 2, 21, 8; `out` is then untouched. */
+netthimble_mended netthimble_clip_mend(const uint8_t *file, size_t file_len, uint8_t *out, size_t out_len);
 
 /* ---- buffers */
 

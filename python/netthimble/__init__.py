@@ -19,12 +19,13 @@ from .binding import FRAMES, NEVER
 from .clips import Clip, load, load_old
 from .counting import CountedBlock, Counter
 from .errors import WORDS, Refused
+from .mending import Mended, mend
 from .players import Block, Player, factor
 from .staircase import Track, staircase
 from .tolerances import Tolerances
 
 __version__ = "1.2.0"
 __all__ = [
-    "FRAMES", "NEVER", "WORDS", "Block", "Clip", "CountedBlock", "Counter", "Player",
-    "Refused", "Tolerances", "Track", "factor", "load", "load_old", "staircase",
-]
+    "FRAMES", "NEVER", "WORDS", "Block", "Clip", "CountedBlock", "CounterMended", "Player", "Player",
+    "Refused", "Tolerances", "Track", "factor", "load", "load_old", "staircasemend",
+]  # fmt: skip

@@ -97,6 +97,16 @@ def takes(call: str, meant: Dict[str, str]) -> Callable[[_F], _F]:
     return around
 
 
+def bytes_of(call: str, argument: str, value: Any) -> bytes:
+    """A copy of bytes: of bytes, a bytearray or a memoryview; a ValueError where the memory was released."""
+    if not isinstance(value, (bytes, bytearray, memoryview)):
+        raise TypeError(f"{call}: {argument} must be a file's bytes, not {kind(value)}")
+    try:
+        return bytes(value)
+    except ValueError as wrong:
+        raise ValueError(f"{call}: {argument} cannot be read: {wrong}") from None
+
+
 # ---- paths
 
 

@@ -144,6 +144,19 @@ class CountedRecord(ctypes.Structure):
     _fields_ = [("channels", c_size_t), ("refusal", c_uint32), ("keep_alive", c_bool), ("ended", c_bool)]
 
 
+
+class Marks(ctypes.Structure):
+    frames: bool
+    offsets: bool
+    tail: bool
+    onset: bool
+    _fields_ = [("frames", c_bool), ("offsets", c_bool), ("tail", c_bool), ("onset", c_bool)]
+
+
+class MendedRecord(ctypes.Structure):
+    _fields_ = [("length", c_size_t), ("tail_size", c_size_t), ("marks", Marks), ("refusal", c_uint32)]
+
+
 # ---- the calls: what each answers, and what it is handed
 
 _WORDS, _BYTES, _PLAYER = POINTER(c_uint32), POINTER(c_uint8), POINTER(PlayerRecord)
@@ -185,6 +198,7 @@ LONG: Dict[str, Tuple[Any, List[Any]]] = {
     "clip_frames_with_onset": (c_uint32, [_BYTES, c_size_t, _WORDS, c_size_t]),
     "clip_write": (c_uint32, [Shape, c_uint32, _WORDS, c_size_t, _BYTES, c_size_t]),
     "staircase": (Tracked, [c_uint64, c_uint64, c_uint64, c_size_t, POINTER(c_size_t), c_size_t]),
+    "clip_mend": (MendedRecord, [_BYTES, c_size_t, _BYTES, c_size_t]),
 }
 
 

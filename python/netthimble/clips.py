@@ -12,7 +12,7 @@ from typing import Any, Iterable, Optional, Tuple, Type, TypeVar, Union
 
 from . import samples as _samples
 from . import wav as _wav
-from .arguments import RATES, kind, number, of_path, path_of, takes, whole
+from .arguments import RATES, bytes_of, kind, number, of_path, path_of, takes, whole
 from .binding import CALL, DEFAULTS, Shape, check, check_floats
 from .errors import Refused, shown
 from .tolerances import Tolerances, record_of
@@ -257,10 +257,7 @@ def _read(call: str, source: Any, header: str, frames: str) -> Tuple[Any, "ctype
         raise TypeError(f"{call}: source must be a path, or a file's bytes, not {kind(source)}")
     check_floats()
     if isinstance(source, (bytes, bytearray, memoryview)):
-        try:
-            data = bytes(source)
-        except ValueError as wrong:  # memory that was released
-            raise ValueError(f"{call}: source cannot be read: {wrong}") from None
+        data = bytes_of(call, "source", source)
         given = f"{len(data)} bytes"
     else:
         path = path_of(call, "source", source)

@@ -97,6 +97,7 @@ static void clips(void) {
     CHECK(netthimble_clip_frames_with_onset(file, file_len, other, CLIP) == 0);
     CHECK(netthimble_clip_shape(file, file_len).refusal == 15);
     CHECK(netthimble_clip_frames(file, file_len, other, CLIP) == 15);
+    CHECK(netthimble_clip_mend(file, file_len - 5, (uint8_t *)other, file_len - 5).refusal == 0);
 }
 
 static void buffers(void) {

@@ -16,11 +16,11 @@ use Rattle.clip.specs.Known.{old_clip, new_clip, frames, KnownClips}
 use Rattle.clip.proofs.Each.{split}
 use Rattle.clip.proofs.Longest.{longest_read, longest_bytes, longest_length}
 
-all_below : ℕ → List ℕ → Bool
+unfoldable pub all_below : ℕ → List ℕ → Bool
 all_below bound [] = ltb 0 bound
 all_below bound (x ∷ xs) = ltb x bound && all_below bound xs
 
-below_all : (bound : ℕ) (l : List ℕ) → all_below bound l ≡ true → Below bound l
+pub below_all : (bound : ℕ) (l : List ℕ) → all_below bound l ≡ true → Below bound l
 unfolding all_below
 below_all bound [] h k = ltb-true 0 bound h
 below_all bound (x ∷ xs) h zero = ltb-true x bound (split _ _ h).0

@@ -1,14 +1,14 @@
--- The laws that the proofs of `clip` share.
-mod Numbers
-mod Words
-mod Each
+-- The laws that the proofs of `clip` share, some of them with those of the crates above it.
+pub mod Numbers
+pub mod Words
+pub mod Each
 pub mod LaidOut
-mod RoundTrip
+pub mod RoundTrip
 mod Accepted
 mod WriteWords
-mod HeaderWords
+pub mod HeaderWords
 mod Writable
 mod TwoReaders
-mod WrittenClips
-mod Longest
-mod Known
+pub mod WrittenClips
+pub mod Longest
+pub mod Known

@@ -33,7 +33,7 @@ unfolding words
 below_words [] k = lit< tt
 below_words (w ∷ ws) k = below_append 256 (bytes 4 w) (words ws) (below_bytes 4 w) (below_words ws) k
 
-below_layout : (f : Form) (channels frames rate onset : ℕ) (samples : List ℕ) → Below 256 (layout f channels frames rate onset samples)
+pub below_layout : (f : Form) (channels frames rate onset : ℕ) (samples : List ℕ) → Below 256 (layout f channels frames rate onset samples)
 unfolding layout
 below_layout f channels frames rate onset samples =
     below_append 256 _ _ (below_bytes 2 _) (below_append 256 _ _ (below_bytes 2 _) (below_append 256 _ _ (below_bytes 4 _) (below_append 256 _ _ (below_bytes 4 _)

@@ -20,10 +20,10 @@ use Rattle.clip.proofs.LaidOut.{laid_out}
 use Rattle.clip.proofs.Each.{both, each_at, each_all}
 
 -- a field's bytes stand at its place
-piece : (n at : ℕ) (file : List ℕ) → at + n ≤ length file → Below 256 file → bytes n (number n (drop at file)) ++ drop (at + n) file ≡ drop at file
+pub piece : (n at : ℕ) (file : List ℕ) → at + n ≤ length file → Below 256 file → bytes n (number n (drop at file)) ++ drop (at + n) file ≡ drop at file
 piece n at file room h = rw (← drop-drop n at file) (bytes_number n (drop at file) (simp length-drop (omega arith)) (below_drop at file h))
 
-words_below : (k at : ℕ) (file : List ℕ) → Below 256 file → Below (2 ^ 32) (table k (λ i. number 4 (drop (at + 4 * i) file)))
+pub words_below : (k at : ℕ) (file : List ℕ) → Below 256 file → Below (2 ^ 32) (table k (λ i. number 4 (drop (at + 4 * i) file)))
 words_below k at file h j =
     let w : List ℕ = table k (λ i. number 4 (drop (at + 4 * i) file)) in
     let long : length w ≡ k = length_table k _ in

@@ -1,12 +1,12 @@
 -- The bytes of numbers one after another, by their places. Assumes nothing.
-use mathlib.Core.Path.{◌≡◌, refl, ap, ◌∙◌}
+use mathlib.Core.Path.{◌≡◌, refl, ap, sym, ◌∙◌}
 use mathlib.Core.List.{List, [], ◌∷◌, ◌++◌}
-use Prim.Native.Nat.{ℕ, suc, ◌*◌, ◌/◌, ◌%◌, ◌^◌}
+use Prim.Native.Nat.{ℕ, suc, ◌*◌, ◌/◌, ◌%◌, ◌^◌, ◌<◌}
 use native.Mathlib.Nat.{mul-suc}
 use native.Mathlib.Omega.{arith}
 use lib.ListN.{length, get_or}
 use Rattle.std.specs.Int.{w32, to_le_bytes}
-use Rattle.lists.specs.Table.{table, table_same}
+use Rattle.lists.specs.Table.{table, table_same, get_or_table}
 use Rattle.clip.specs.Layout.{bytes, words}
 
 -- the byte at place i of numbers of four bytes each
@@ -32,3 +32,7 @@ word_table (w ∷ ws) =
     let on : (i : ℕ) → word_byte (w ∷ ws) (suc (suc (suc (suc i)))) ≡ word_byte ws i = λ i. rw (word i, place i) refl in
     let rest = table_same (4 * length ws) (λ i. word_byte (w ∷ ws) (suc (suc (suc (suc i))))) (word_byte ws) (λ i b. on i) ∙ word_table ws in
     rw long (ap (λ (r : List ℕ). bytes 4 w ++ r) rest)
+
+pub byte_of_words : (ws : List ℕ) (i : ℕ) → i < 4 * length ws → word_byte ws i ≡ get_or (words ws) i 0
+byte_of_words ws i h =
+    sym (get_or_table (4 * length ws) (word_byte ws) i 0 h) ∙ ap (λ (l : List ℕ). get_or l i 0) (word_table ws)

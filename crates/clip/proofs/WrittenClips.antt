@@ -39,7 +39,7 @@ unfolding clip_checks
 pass laid_out shape len onset x p = rw (p.layout, p.shape_fits, p.rate_fits, p.below) refl
 
 -- what is read of a file that is laid out
-read_by : (laid_out : Bool) (found h : ClipHeader) (m onset : ℕ) → laid_out ≡ true → found ≡ h → m ≡ onset
+pub read_by : (laid_out : Bool) (found h : ClipHeader) (m onset : ℕ) → laid_out ≡ true → found ≡ h → m ≡ onset
     → after_checks {A = WithOnset} (clip_checks laid_out found.shape (found.shape.channels * found.shape.frames) m) (record { header = found; onset = m })
     ≡ after_checks {A = WithOnset} (clip_checks true h.shape (h.shape.channels * h.shape.frames) onset) (record { header = h; onset = onset })
 read_by laid_out found h m onset is same own = rw (is, same, own) refl

@@ -93,9 +93,13 @@ clip_checks laid_out shape len onset =
     (cond (not (ltb onset shape.frames)) (Err refused.Onset)
     (Ok tt))))
 
+-- the length that the header states is that of a form, for as many channels as it states
+abbrev pub has_length : Form → List ℕ → Bool
+has_length f file = eqb (length_field file) (header_length f (channels_field file))
+
 -- which header a file has, by the header's length
 abbrev pub form_of : List ℕ → Form
-form_of file = cond (eqb (length_field file) (header_length form.New (channels_field file))) form.New form.Old
+form_of file = cond (has_length form.New file) form.New form.Old
 
 -- a clip by the header of one form
 unfoldable pub read_as : Form → List ℕ → Result WithOnset Refusal

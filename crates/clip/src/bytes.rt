@@ -1,6 +1,6 @@
 //! Little-endian numbers in a file's bytes.
 ghost use Rattle.std.specs.Prelude.{◌≡◌, ◌+◌, ◌*◌, ◌<◌, length, get_or};
-ghost use Rattle.lists.specs.Table.{table};
+ghost use Rattle.lists.specs.Table.{table, over};
 ghost use Rattle.clip.specs.Layout.{words};
 ghost use Rattle.clip.specs.Reading.{number_at, frames_from};
 
@@ -59,13 +59,13 @@ pub(crate) fn read_words(file: &[u8], start: usize, out: &mut [u32])
     }
 }
 
-// Stores the bytes of each number, one number after another.
+/// Stores the bytes of each number, one number after another, as far as the slice goes.
 #[tactic(auto, using(lists::specs::Table::filled_none, lists::specs::Table::filled_more))]
-pub(crate) fn write_words(numbers: &[u32], out: &mut [u8])
-    requires { length out.old ≡ 4 * length numbers.now }
-    ensures { out.new ≡ words numbers.now }
+pub fn write_words(numbers: &[u32], out: &mut [u8])
+    ensures { out.new ≡ over (words numbers.now) out.old }
 {
-    for (i, byte) in out.iter_mut().enumerate() {
-        *byte = numbers[i / 4].to_le_bytes()[i % 4];
+    let count = out.len().min(4 * numbers.len());
+    for i in 0..count {
+        out[i] = numbers[i / 4].to_le_bytes()[i % 4];
     }
 }

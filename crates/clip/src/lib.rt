@@ -14,8 +14,12 @@ ghost use Rattle.clip.specs.Known.{KnownClips};
 ghost use Rattle.clip.specs.Statement.{ClipFile, TwoReaders, WrittenClips};
 
 use buffer::Shape;
-pub use reading::{read_clip, read_clip_with_onset, read_frames, read_frames_with_onset};
-pub use writing::{length_to_write, write_clip};
+pub use bytes::write_words;
+pub use reading::{
+    form_of, has_length, header_of, offset_at, offsets_match, onset_at, read_clip,
+    read_clip_with_onset, read_frames, read_frames_with_onset,
+};
+pub use writing::{length_to_write, starts, write_clip};
 
 /// The length of the longest clip file, in bytes.
 pub const MAX_LENGTH: usize = 65_536;

@@ -4,7 +4,7 @@ ghost use Rattle.std.specs.Prelude.{◌≡◌, ◌*◌, ◌<◌, length, true, I
 ghost use Rattle.buffer.specs.Answers.{check};
 ghost use Rattle.buffer.specs.Limits.{Valid};
 ghost use Rattle.buffer.specs.declared.refusals.Refusal.TheVariants as refused;
-ghost use Rattle.clip.specs.Reading.{ValidHeader, onset_field, offsets_match, is_layout, form_of, clip_checks, header_of, read_as, clip_read, read_with_onset};
+ghost use Rattle.clip.specs.Reading.{ValidHeader, onset_field, offset_field, offsets_match, is_layout, has_length, form_of, clip_checks, header_of, read_as, clip_read, read_with_onset};
 ghost use Rattle.clip.specs.Reading.{frames_read, frames_read_with_onset, header_read, room_checked, frames_out};
 
 use super::bytes::{read_words, u16_at, u32_at};
@@ -12,13 +12,14 @@ use super::{ClipHeader, Form, MAX_LENGTH, WithOnset};
 use buffer::{Refusal, Shape};
 use rounding::BinaryFloat;
 
-// Whether offset c is where channel c starts, for each channel. A loop, since the result of
-// `(0..channels).all(..)` is not proved.
+/// Whether offset c is where channel c starts, for each channel of that many frames.
+// A loop, since the result of `(0..channels).all(..)` is not proved.
 #[tactic(auto, using(crate::proofs::Numbers::rows_bound, crate::proofs::Each::each_more), unfolding(crate::specs::Reading::each, crate::specs::Reading::offsets_match))]
-fn offsets_match(form: Form, file: &[u8], channels: usize, frames: usize) -> bool
-    requires { (channels < 65536) × (frames < 4294967296) }
+pub fn offsets_match(form: Form, file: &[u8], channels: u16, frames: u32) -> bool
     ensures { result ≡ offsets_match form file.now channels frames }
 {
+    let channels = usize::from(channels);
+    let frames = frames as usize;
     let fields = 12 + form.onset_bytes();
     for c in 0..channels {
         if u32_at(file, fields + 4 * c) as usize != fields + 4 * channels + 4 * frames * c {
@@ -37,18 +38,19 @@ fn is_layout(form: Form, file: &[u8]) -> bool
     if len < 12 {
         return false;
     }
-    let channels = usize::from(u16_at(file, 2));
-    let frames = u32_at(file, 4) as usize;
+    let count = u16_at(file, 2);
+    let channels = usize::from(count);
+    let frames = u32_at(file, 4);
     let start = 12 + form.onset_bytes() + 4 * channels;
     len <= MAX_LENGTH
         && usize::from(u16_at(file, 0)) == start
         && 1 <= frames
-        && len == start + 4 * frames * channels
-        && offsets_match(form, file, channels, frames)
+        && len == start + 4 * frames as usize * channels
+        && offsets_match(form, file, count, frames)
 }
 
-// What the header says.
-fn header_of(form: Form, file: &[u8]) -> ClipHeader
+/// What the header of a file says by one form, unchecked.
+pub fn header_of(form: Form, file: &[u8]) -> ClipHeader
     ensures answer { result ≡ header_of form file.now }
     ensures small { (result.shape.channels < 65536) × (result.shape.frames < 4294967296) }
 {
@@ -66,9 +68,9 @@ fn header_of(form: Form, file: &[u8]) -> ClipHeader
     }
 }
 
-// The onset, 0 where the header has none.
+/// The onset by the header of one form, unchecked; 0 where it has none.
 #[tactic(auto, unfolding(crate::specs::Reading::number))]
-fn onset_at(form: Form, file: &[u8]) -> u32
+pub fn onset_at(form: Form, file: &[u8]) -> u32
     ensures { result ≡ onset_field form file.now }
 {
     match form {
@@ -77,11 +79,25 @@ fn onset_at(form: Form, file: &[u8]) -> u32
     }
 }
 
-// Which header a file has, by the header's length.
-fn form_of(file: &[u8]) -> Form
+/// The offset that the header of one form has for a channel, unchecked.
+pub fn offset_at(form: Form, file: &[u8], channel: u16) -> u32
+    ensures { result ≡ offset_field form file.now channel }
+{
+    u32_at(file, 12 + form.onset_bytes() + 4 * usize::from(channel))
+}
+
+/// Whether the length that a header states is that of one form.
+pub fn has_length(form: Form, file: &[u8]) -> bool
+    ensures { result ≡ has_length form file.now }
+{
+    usize::from(u16_at(file, 0)) == 12 + form.onset_bytes() + 4 * usize::from(u16_at(file, 2))
+}
+
+/// Which header a file has: the new one, where the length that it states is that of the new form.
+pub fn form_of(file: &[u8]) -> Form
     ensures { result ≡ form_of file.now }
 {
-    if usize::from(u16_at(file, 0)) == 16 + 4 * usize::from(u16_at(file, 2)) {
+    if has_length(Form::New, file) {
         Form::New
     } else {
         Form::Old

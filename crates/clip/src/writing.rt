@@ -7,9 +7,9 @@ ghost use Rattle.clip.specs.Layout.{bytes, words, offset};
 ghost use Rattle.clip.specs.declared.Form.TheVariants as form;
 ghost use Rattle.clip.specs.Writing.{is_file, length_to_write, clip_written, written};
 
-use super::MAX_LENGTH;
 use super::bytes::write_words;
 use super::reading::{check_clip, check_layout};
+use super::{Form, MAX_LENGTH};
 use buffer::{Refusal, Shape};
 use rounding::BinaryFloat;
 
@@ -32,15 +32,17 @@ pub fn length_to_write(shape: Shape, len: usize, onset: u32) -> Result<usize, Re
     Ok(16 + 4 * shape.channels + 4 * shape.frames * shape.channels)
 }
 
-// Where each of 32 channels would start.
+/// Where each of 32 channels would start in a file with the header of one form. A u16 holds the
+/// frames of any file, which are at most 16,380.
 #[tactic(auto, using(crate::proofs::HeaderWords::starts_bound, lists::specs::Table::filled_none, lists::specs::Table::filled_more, lists::specs::Table::filled_end))]
-fn starts(channels: usize, frames: usize) -> [u32; 32]
-    requires { (channels ≤ 32) × (frames ≤ 16380) }
-    ensures { result ≡ table 32 (offset form.New channels frames) }
+pub fn starts(form: Form, channels: u16, frames: u16) -> [u32; 32]
+    ensures { result ≡ table 32 (offset form channels frames) }
 {
+    let first = 12 + form.onset_bytes() + 4 * usize::from(channels);
+    let size = 4 * usize::from(frames);
     let mut starts = [0; 32];
     for (c, start) in starts.iter_mut().enumerate() {
-        *start = (16 + 4 * channels + 4 * frames * c) as u32;
+        *start = (first + size * c) as u32;
     }
     starts
 }
@@ -63,12 +65,12 @@ fn write_header(shape: Shape, onset: u32, header: &mut [u8])
     let (fields, offsets) = header.split_at_mut(16);
     let first = (16 + 4 * channels + 65_536 * channels) as u32;
     write_words(&[first, frames as u32, rate.to_pattern(), onset], fields);
-    write_words(&starts(channels, frames)[..channels], offsets);
+    write_words(&starts(Form::New, channels as u16, frames as u16), offsets);
 }
 
 /// Writes a clip file into a slice just as long as it. It is refused as `length_to_write` says, and
 /// then with 8 (length) where the slice has another length.
-#[tactic(auto, using(crate::proofs::Writable::writable), unfolding(crate::specs::Writing::exactly, crate::specs::Layout::layout))]
+#[tactic(auto, using(crate::proofs::Writable::writable, crate::proofs::HeaderWords::written_whole), unfolding(crate::specs::Writing::exactly, crate::specs::Layout::layout))]
 pub fn write_clip(shape: Shape, onset: u32, samples: &[u32], file: &mut [u8]) -> Result<(), Refusal>
     ensures { (result ≡ clip_written shape (length samples.now) onset (length file.old))
         × (file.new ≡ stored (answer_of result) (written shape onset samples.now) file.old) }

@@ -1,13 +1,13 @@
--- The frames of a clip that was read, and a list whose front is another. Assumes nothing.
+-- The frames of a clip that was read. Assumes nothing.
 use mathlib.Core.Path.{◌≡◌, refl, ap, sym, ◌∙◌}
 use mathlib.Core.List.{List, ◌++◌}
 use Prim.Native.Nat.{ℕ, ◌≤◌}
 use lib.ListN.{length, take, drop}
 use borrow.Author.Tests.{eq-eqb, le-ltb}
-use Rattle.std.proofs.Common.{take_all}
 use Rattle.std.proofs.lemmas.List.{length-take-le}
 use Rattle.std.specs.Prelude.{Ok}
 use Rattle.lists.specs.Table.{over, length_table}
+use Rattle.clip.proofs.HeaderWords.{over_front}
 use Rattle.clip.specs.Reading.{read_with_onset, room_checked, frames_read_with_onset, frames_out, header_read}
 use Rattle.clip.specs.Statement.{frames_of}
 use Rattle.clip.specs.declared.WithOnset.{WithOnset}
@@ -20,11 +20,6 @@ pub frames_taken : (file : List ℕ) (w : WithOnset) (n : ℕ) → read_with_ons
     → frames_read_with_onset file n ≡ Ok w.header
 unfolding room_checked
 frames_taken file w n e full = rw (e, eq-eqb n (count_of w.header.shape) full) refl
-
--- its elements, and then those that the list had there
-pub over_front : (front l : List ℕ) → length front ≤ length l → over front l ≡ front ++ drop (length front) l
-unfolding over
-over_front front l h = rw (take_all (length l) front h) refl
 
 -- what is answered, of calls that were each accepted
 pub loaded_by : (file : List ℕ) (w : WithOnset) (fresh player : Player) (room : ℕ) → read_with_onset file ≡ Ok w → made w.header.shape.rate ≡ Ok fresh

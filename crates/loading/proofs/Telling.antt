@@ -20,6 +20,7 @@ use Rattle.clip.specs.Reading.{is_layout, form_of, clip_checks, read_as, read_wi
 use Rattle.clip.specs.Statement.{frames_of}
 use Rattle.clip.specs.declared.Form.{Form}
 use Rattle.clip.specs.declared.ClipHeader.{ClipHeader}
+use Rattle.clip.proofs.HeaderWords.{over_front}
 use Rattle.clip.proofs.LaidOut.{laid_out}
 use Rattle.player.specs.Messages.{made}
 use Rattle.player.specs.declared.Player.{Player}
@@ -27,7 +28,7 @@ use Rattle.obeying.specs.Obeying.{session_of}
 use Rattle.session.specs.Transcript.{transcript, no_words}
 use Rattle.loading.specs.Loading.{count_of, with_count, sent, sent_clip, samples_of, loaded}
 use Rattle.loading.specs.Playing.{clip_room, file_room, told, OfTheRead}
-use Rattle.loading.proofs.Frames.{over_front}
+use Rattle.loading.proofs.Fronts.{front_of, read_whole, some_map}
 
 -- ---- a refusal's text
 pub text_stored : (t out out' : List ℕ) (n : ℕ) → Some n ≡ printed true t → out' ≡ printed_out true t out → length t ≤ length out
@@ -94,33 +95,14 @@ told_long : (file lines : List ℕ) → max_length < length file → told file l
 told_long file lines long = rw (too_long (form_of file) file long) refl
 
 pub front_read : (file lines : List ℕ) → told (take file_room file) lines ≡ told file lines
-front_read file lines = go (leb (length file) file_room) (leb-true (length file) file_room) (leb-false (length file) file_room)
-  where
-    go : (b : Bool) → (b ≡ true → length file ≤ file_room) → (b ≡ false → file_room < length file) → told (take file_room file) lines ≡ told file lines
-    go true p q = ap (λ (l : List ℕ). told l lines) (take_all file_room file (p refl))
-    go false p q =
-        let more = q refl in
-        told_long (take file_room file) lines (omega (arith, length-take-le file_room file (omega (arith, more)))) ∙ sym (told_long file lines (omega (arith, more)))
+front_read file lines = front_of (λ (l : List ℕ). told l lines) (refusal_text 15) (λ l long. told_long l lines long) file
 
 -- what was read of a file, up to its end or to as many bytes as count, tells what all of it does
 pub file_told : (u v : Option (List ℕ)) (bytes lines : List ℕ) (n : ℕ) → length bytes ≡ file_room → n ≤ file_room → Consumes u v (take n bytes)
     → (n < file_room → IsAtEnd v) → IfSome u (λ file. told (take n bytes) lines ≡ told file lines)
-file_told None v bytes lines n long within read end = tt
-file_told (Some xs) None bytes lines n long within read end = absurd read
-file_told (Some xs) (Some ys) bytes lines n long within read end = go (ltb n file_room) (ltb-true n file_room) (ltb-false n file_room)
-  where
-    go : (b : Bool) → (b ≡ true → n < file_room) → (b ≡ false → file_room ≤ n) → told (take n bytes) lines ≡ told xs lines
-    go true p q = ap (λ (l : List ℕ). told l lines) (sym (read ∙ ap (λ (l : List ℕ). take n bytes ++ l) (end (p refl)) ∙ append-nil (take n bytes)))
-    go false p q =
-        let count : length (take n bytes) ≡ file_room = length-take-le n bytes (omega (arith, long, within)) ∙ omega (arith, within, q refl) in
-        let front : take file_room xs ≡ take n bytes = ap (take file_room) read ∙ ap (λ k. take k (take n bytes ++ ys)) (sym count) ∙ take-append_seam (take n bytes) ys in
-        ap (λ (l : List ℕ). told l lines) (sym front) ∙ front_read xs lines
+file_told u v bytes lines n = read_whole (λ (l : List ℕ). told l lines) (refusal_text 15) (λ l long. told_long l lines long) u v bytes n
 
 -- ---- what holds of known bytes
-pub some_map : (o : Option (List ℕ)) (P Q : List ℕ → Type 0) → ((x : List ℕ) → P x → Q x) → IfSome o P → IfSome o Q
-some_map None P Q f p = tt
-some_map (Some x) P Q f p = f x p
-
 pub told_whole : (u v i : Option (List ℕ)) (bytes : List ℕ) (n : ℕ) (P : List ℕ → Type 0) → length bytes ≡ file_room → n ≤ file_room
     → Consumes u v (take n bytes) → (n < file_room → IsAtEnd v) → IfSome i (λ lines. P (told (take n bytes) lines))
     → IfSome u (λ file. IfSome i (λ lines. P (told file lines)))

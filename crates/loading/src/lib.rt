@@ -10,7 +10,7 @@ ghost use Rattle.loading.specs.Statement.{ClipsPlay};
 
 use buffer::Refusal;
 use player::Player;
-pub use playing::{ROOM, play, play_file, play_in_memory, read_front};
+pub use playing::{FILE, ROOM, play, play_file, play_in_memory, read_front, refuse};
 
 /// Reads the clip of a file's bytes as the new reader takes it, and answers a player of the clip's
 /// rate that was given the clip, and the count of its samples, which stand at the front of `samples`.

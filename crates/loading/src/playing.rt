@@ -17,8 +17,8 @@ use std::io::{Read, Write};
 /// As many words as any accepted clip has samples, and a few more.
 pub const ROOM: usize = 16_384;
 
-// The bytes of a clip file that are read: one more than the longest clip has.
-const FILE: usize = 65_537;
+/// The bytes of a clip file that are read: one more than the longest clip has.
+pub const FILE: usize = 65_537;
 
 /// Reads until `bytes` is full or the file is at its end. The answer is how many bytes were read,
 /// and the error where a read failed before.
@@ -38,8 +38,8 @@ pub fn read_front<F: Read>(file: &mut F, bytes: &mut [u8]) -> (usize, io::Result
     (done, Ok(()))
 }
 
-// Prints why a clip is refused.
-fn refuse<W: Write>(output: &mut W, refusal: Refusal) -> io::Result<()>
+/// Prints why a clip is refused.
+pub fn refuse<W: Write>(output: &mut W, refusal: Refusal) -> io::Result<()>
     ensures ok { OnOk result (Appends (W.contents output.old) (W.contents output.new) (refusal_text (number refusal))) }
     ensures err { OnErr result (AppendsFront (W.contents output.old) (W.contents output.new)
         (refusal_text (number refusal))) }

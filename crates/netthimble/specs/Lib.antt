@@ -2,3 +2,4 @@
 pub mod ForC
 pub mod Staircases
 pub mod Counters
+pub mod Mending

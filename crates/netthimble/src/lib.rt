@@ -5,6 +5,7 @@
 #![tactic(auto)]
 
 mod buffers;
+mod clip_mending;
 mod clips;
 mod counters;
 mod playing;

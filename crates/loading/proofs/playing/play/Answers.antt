@@ -7,7 +7,8 @@ use Rattle.session.specs.Running.{AppendsFront}
 use Rattle.session.specs.Transcript.{transcript, no_words}
 use Rattle.session.proofs.Written.{on_ok_map, on_err_map}
 use Rattle.loading.specs.Playing.{clip_room, told}
-use Rattle.loading.proofs.Telling.{told_ok, some_map}
+use Rattle.loading.proofs.Fronts.{some_map}
+use Rattle.loading.proofs.Telling.{told_ok}
 use Rattle.loading.proofs.playing.play.Goals as goal
 
 empty_long : length {A = ℕ} (replicate 16384 0) ≡ clip_room

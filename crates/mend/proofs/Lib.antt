@@ -1,0 +1,4 @@
+-- The laws that `mend` cites.
+mod Numbers
+mod Longer
+mod Made

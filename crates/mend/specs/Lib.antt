@@ -1,0 +1,2 @@
+-- What the program `mend` writes.
+pub mod Told
