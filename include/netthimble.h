@@ -85,7 +85,8 @@ enum {
     NETTHIMBLE_ONSET = 17,   /* clip with an onset: the onset is not below the frames */
     NETTHIMBLE_TOLERANCE = 18, /* tolerances: one that is not finite, or outside 0..1 */
     NETTHIMBLE_RAMP = 19,      /* making a player: a ramp of more than 48,000 frames */
-    NETTHIMBLE_STAIRCASE = 22  /* staircase: the step is 0 or over 20, start or threshold over 120, or the trials not 1..1,000NETTHIMBLE_NOTHING_LEFT = 21 /* mending a clip file: not one frame for each channel remains */
+    NETTHIMBLE_NOTHING_LEFT = 21, /* mending a clip file: not one frame for each channel remains */
+    NETTHIMBLE_STAIRCASE = 22  /* staircase: the step is 0 or over 20, start or threshold over 120, or the trials not 1..1,000 */
 };
 
 /* ---- the records */

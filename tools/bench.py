@@ -1,7 +1,8 @@
 #!/usr/bin/env python3
 """Measures ours beside the Rust original, in alternating rounds, both built for release: blocks, copies and conversions (1, 2 and 8 channels) of a
 million frames through the C library, and `trial` on 100,000 blocks. memcpy is the limit. A block in cents, a preview and a counting player's
-block are held against the block call too, and blocks outside a ramp and within it against those of a player without one. Needs rt, cc, rustc and the Rust original (oracle/README.md).
+block are held against the block call too, and blocks outside a ramp and within it against those of a player without one. Needs rt, cc, rustc
+and the Rust original (oracle/README.md).
 """
 import statistics
 import struct
@@ -74,7 +75,7 @@ def show(ours, rust):
         return [times[name] for times in side]
 
     head("run", "ours, ns", "Rust, ns", "ratio in a round")
-    for name in (name for name in ours[0] if not name.endswith(("-shown", "-preview", "-twin", "-ahead", "-count")APART)):
+    for name in (name for name in ours[0] if not name.endswith(APART)):
         a, other = column(ours, name), name.removesuffix("-c").removesuffix("-cents")
         if other not in rust[0]:
             row(name, f"{statistics.median(a):,.0f}", "", "")

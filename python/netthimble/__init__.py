@@ -26,6 +26,6 @@ from .tolerances import Tolerances
 
 __version__ = "1.2.0"
 __all__ = [
-    "FRAMES", "NEVER", "WORDS", "Block", "Clip", "CountedBlock", "CounterMended", "Player", "Player",
-    "Refused", "Tolerances", "Track", "factor", "load", "load_old", "staircasemend",
+    "FRAMES", "NEVER", "WORDS", "Block", "Clip", "CountedBlock", "Counter", "Mended", "Player",
+    "Refused", "Tolerances", "Track", "factor", "load", "load_old", "mend", "staircase",
 ]  # fmt: skip

@@ -26,8 +26,8 @@ WORDS = {
     17: "a clip's onset that is not below its frames",
     18: "a tolerance that is not finite, or outside 0..1",
     19: "a ramp of more than 48,000 frames",
-    22: "a staircase's step of 0 or over 20, its start or threshold over 120, or its trials not 1..1,000",
     21: "a clip file to be mended of which not one frame for each channel remains",
+    22: "a staircase's step of 0 or over 20, its start or threshold over 120, or its trials not 1..1,000",
 }
 
 
