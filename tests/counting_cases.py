@@ -1,6 +1,7 @@
 #!/usr/bin/env python3
-"""The counting player of the Python package, block by block beside the first player and beside the lines of docs/RULE.md, 'The rule in executable
-form': by hand, and on random clips with the loop on and off, at random rates and times, with refused calls and previews strewn in.
+"""The counting player of the Python package, block by block beside the first player and beside the lines of
+docs/RULE.md, 'The rule in executable form': by hand, and on random clips with the loop on and off, at random rates and times, with refused calls
+and previews strewn in.
 """
 import math
 import random
