@@ -11,6 +11,8 @@ LENGTHS = [1, 2, 127, 128, 129, 1000, 48000] * 3 + [0] * 2 + [48001]
 BAD_RAMPS = ["-1", "1.5", "", "x", "12E1", "10000000000000000000", "0x10"]
 LARGE_RAMPS = ["48001", "9999999999999999999", "9007199254740993", "0000000000000048001"]
 NEARLY_NEVER = 1.7976931348623155e308
+# frames of which a product shows, even one with a factor of 1
+ODD = ["7F800001", "FFC12345", "7FFFFFFF", "7F800001", "FFC12345", "7F800000", "FF800000", "80000000", "BF800000", "80000001"]
 
 
 def has_ramp(unit):
@@ -94,7 +96,7 @@ class Ramper:
         start = self.start(times, rate)
         offset = 0.0 if rng.random() < 0.75 else maker.buffer_time(frames, clip_rate)
         duration = MAX if rng.random() < 0.9 else maker.buffer_time(frames, clip_rate) + rng.choice([0.0, 300 / rate])
-        units = [maker.clip(maker.channels(), frames, clip_rate), f"S {x64(start)} {x64(offset)} {x64(duration)}"]
+        units = [self.clip(maker.channels(), frames, clip_rate), f"S {x64(start)} {x64(offset)} {x64(duration)}"]
         units += ["L 1"] if rng.random() < 0.85 else []
         stops = [self.stop(start, rate, length, 128 * count) for _ in range(rng.choice([0, 1, 1, 1, 2, 3]))]
         while stops and rng.random() < 0.6:
@@ -112,6 +114,12 @@ class Ramper:
             units += ["Y"] if rng.random() < 0.5 else []
         units = [f"{self.fresh(rate)} {self.word(length)}", *units, *stops, "Y", "Z"]
         return maker.strewn(units) if maker.previews and rng.random() < 0.5 else units
+
+    def clip(self, channels, frames, rate):
+        """Any clip, and in one of four little but NaNs with bits of their own, infinities and negative zeros."""
+        if self.rng.random() < 0.75:
+            return self.maker.clip(channels, frames, rate)
+        return self.maker.clip_of(channels, frames, rate, "".join(" " + word for word in self.rng.choices(ODD, k=channels * frames)))
 
     def fresh(self, rate):
         """The line `R` up to its ramp."""

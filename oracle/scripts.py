@@ -264,7 +264,11 @@ class Generator:
     # ------------------------------------------------------------ calls
 
     def clip(self, channels, frames, rate):
-        return f"C {channels} {frames} {x32(rate)}" + self.words(channels * frames)
+        return self.clip_of(channels, frames, rate, self.frames(channels * frames))
+
+    def clip_of(self, channels, frames, rate, words):
+        """The clip of these words, each behind a space."""
+        return f"C {channels} {frames} {x32(rate)}" + words_text(words)
 
     def block(self, time, rate, detune):
         if isinstance(detune, int):
