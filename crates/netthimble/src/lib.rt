@@ -6,6 +6,7 @@
 
 mod buffers;
 mod clips;
+mod pcm;
 mod playing;
 mod previewing;
 mod settings;
