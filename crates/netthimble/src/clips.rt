@@ -11,7 +11,7 @@ use super::{Count, Shaped, ShapedWithOnset};
 use buffer::{Refusal, Shape};
 
 // The number of a refusal, 0 for none: an exported function can't return an enum, and has no `From` to one.
-fn refusal_of<T: Drop>(answer: Result<T, Refusal>) -> u32
+pub(crate) fn refusal_of<T: Drop>(answer: Result<T, Refusal>) -> u32
     ensures { result ≡ refusal_for answer }
 {
     answer.err().map_or(0, |refusal| refusal.number())

@@ -8,6 +8,7 @@ mod buffers;
 mod clip_mending;
 mod clips;
 mod counters;
+mod pcm;
 mod playing;
 mod previewing;
 mod settings;

@@ -1,0 +1,4 @@
+-- The laws that the proofs of `pcm` share.
+mod Words
+mod Quotients
+mod Computed

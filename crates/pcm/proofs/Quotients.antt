@@ -1,0 +1,103 @@
+-- Whole numbers as f64, and their quotient by full scale as f32: exact as an f64, so rounded once. Assumes nothing.
+use Rattle.std.proofs.Common.{◌≡◌, ℕ, suc, ◌+◌, ◌-◌, ◌*◌, ◌^◌, ◌<◌, ◌≤◌, Bool, true, false, cond, leb, ltb, ℤ, pos, negsuc, sym, refl, ap, ◌∙◌, arith, mul-one, mul_assoc, pow_pos, pow-add, lt_of_lt_of_le, le_trans, mul-le-mul_left, mul-lt-mul_of_pos_right}
+use Rattle.std.proofs.Math.Nat.{pow-le-pow_right}
+use borrow.Author.Tests.{leb-true, leb-false}
+use lib.Dec.{lit<, lit≤}
+use lib.Ieee.{Float, Format, binary32, binary64, prec, emax, low, unlike, minus, round, sum, sub, div, of_int, to_bits}
+use lib.Ieee.Exact.{HasValue, round_exact}
+use lib.Ieee.Back.{round_whole}
+use Rattle.rounding.specs.Rounding.{convert, narrow}
+use Rattle.rounding.proofs.Exact.{whole_exact}
+use Rattle.rounding.proofs.Operations.{sub_value, sum_least, div_value}
+use Rattle.rounding.proofs.Read.{convert_value}
+use Rattle.rounding.proofs.Sum.{sum_less}
+use Rattle.pcm.specs.WholeNumbers.{full, signed, whole, level, sample}
+use Rattle.pcm.specs.Statement.{ExactSamples}
+use Rattle.pcm.specs.declared.Bits.{Bits}
+use Rattle.pcm.specs.declared.Bits.TheVariants as bits
+
+-- ---- a whole number of the format's digits over a power of two up to 2 ^ 31 is a value of the format
+split : (f : Format) (k : ℕ) → k ≤ 31 → 2 ^ (low f - k) * 2 ^ k ≡ 2 ^ low f
+split binary32 k h = let e : 149 - k + k ≡ 149 = omega arith in sym (pow-add 2 (149 - k) k) ∙ ap (λ (j : ℕ). 2 ^ j) e
+split binary64 k h = let e : 1074 - k + k ≡ 1074 = omega arith in sym (pow-add 2 (1074 - k) k) ∙ ap (λ (j : ℕ). 2 ^ j) e
+
+under : (n p i j : ℕ) {top : ℕ} → n < p → i ≤ j → p * 2 ^ j ≤ top → n * 2 ^ i < top
+under n p i j h l room = lt_of_lt_of_le (mul-lt-mul_of_pos_right h (pow_pos i)) (le_trans (mul-le-mul_left p (pow-le-pow_right (lit< tt) l)) room)
+
+bounded : (f : Format) (n k : ℕ) → n < 2 ^ prec f → n * 2 ^ (low f - k) < 2 ^ (low f + suc (emax f))
+bounded binary32 n k h = under n (2 ^ 24) (149 - k) 149 h (omega arith) (lit≤ tt)
+bounded binary64 n k h = under n (2 ^ 53) (1074 - k) 1074 h (omega arith) (lit≤ tt)
+
+exact : (f : Format) (s : Bool) (n k : ℕ) → n < 2 ^ prec f → k ≤ 31 → HasValue (round f s n (2 ^ k)) s n (2 ^ k)
+exact f s n k small h =
+    round_exact f s n (2 ^ k) n (low f - k) (pow_pos k) small (bounded f n k small)
+    (ap (λ (z : ℕ). n * z) (sym (split f k h)) ∙ sym (mul_assoc n (2 ^ (low f - k)) (2 ^ k)))
+
+-- ---- so a quotient as an f64, narrowed, is the fraction rounded once
+own_sign : (s : Bool) → unlike s false ≡ s
+own_sign true = refl
+own_sign false = refl
+
+quotient : (s : Bool) (n k : ℕ) (x y : Float) → n < 2 ^ 53 → k ≤ 31 → HasValue x s n 1 → HasValue y false (2 ^ k) 1
+    → narrow (div binary64 x y) ≡ to_bits binary32 (round binary32 s n (2 ^ k))
+unfolding narrow
+quotient s n k x y small h v w =
+    let e : div binary64 x y ≡ round binary64 s n (2 ^ k) =
+    div_value binary64 x y s false n 1 (2 ^ k) 1 (lit< tt) (pow_pos k) v w ∙ rw (own_sign s, mul-one, mul-one) refl in
+    ap (to_bits binary32) (ap (convert binary32) e ∙ convert_value binary32 (round binary64 s n (2 ^ k)) s n (2 ^ k) (pow_pos k) (exact binary64 s n k small h))
+
+pub exact_samples : ExactSamples
+unfolding level
+exact_samples = record { plus = λ n k small h. exact binary32 false n k small h; minus = λ n k small h. exact binary32 true (suc n) k small h }
+
+-- ---- the size of a whole number
+abbrev size_of : ℤ → ℕ
+size_of (pos n) = n
+size_of (negsuc n) = suc n
+
+minus_size : (v w : ℕ) → v < 2 ^ 32 → w ≤ 2 ^ 32 → size_of (minus v w) ≤ 2 ^ 32
+minus_size v w h l = go (leb w v) refl
+  where
+    go : (t : Bool) → leb w v ≡ t → size_of (cond t (pos (v - w)) (negsuc (w - suc v))) ≤ 2 ^ 32
+    go true e = omega arith
+    go false e = omega (arith, leb-false w v e)
+
+signed_size : (full v : ℕ) → v < 2 ^ 32 → 2 * full ≤ 2 ^ 32 → size_of (signed full v) ≤ 2 ^ 32
+unfolding signed
+signed_size full v h l = go (ltb v full)
+  where
+    go : (t : Bool) → size_of (cond t (pos v) (minus v (2 * full))) ≤ 2 ^ 32
+    go true = omega arith
+    go false = minus_size v (2 * full) h l
+
+scale : (k : ℕ) → k ≤ 31 → HasValue (of_int binary64 (pos (2 ^ k))) false (2 ^ k) 1
+scale k h = whole_exact binary64 (2 ^ k) (le_trans (pow-le-pow_right (lit< tt) h) (lit≤ tt))
+
+-- ---- the difference of two whole numbers
+differ : (v w : ℕ) (t : Bool) → leb w v ≡ t → sum binary64 false v true w 1 ≡ of_int binary64 (cond t (pos (v - w)) (negsuc (w - suc v)))
+unfolding of_int
+differ v w true e = sum_least binary64 v w 1 (leb-true w v e)
+differ v w false e =
+    let less : v < w = leb-false w v e in
+    let size : w - v ≡ suc (w - suc v) = omega arith in
+    sum_less binary64 false true v w 1 refl less ∙ ap (λ (n : ℕ). round binary64 true n 1) size
+
+pub lowered : (v w : ℕ) → v < 2 ^ 32 → w ≤ 2 ^ 33 → sub binary64 (of_int binary64 (pos v)) (of_int binary64 (pos w)) ≡ of_int binary64 (minus v w)
+lowered v w small h =
+    sub_value binary64 (of_int binary64 (pos v)) (of_int binary64 (pos w)) false false v 1 w 1 (lit< tt) (lit< tt)
+    (whole_exact binary64 v (omega arith)) (whole_exact binary64 w (omega arith))
+    ∙ rw (mul-one, mul-one) (differ v w (leb w v) refl)
+
+-- ---- of a whole number of 32 digits at most the quotient is the sample
+leveled : (z : ℤ) (k : ℕ) → size_of z ≤ 2 ^ 32 → k ≤ 31 → narrow (div binary64 (of_int binary64 z) (of_int binary64 (pos (2 ^ k)))) ≡ to_bits binary32 (level z (2 ^ k))
+unfolding level of_int
+leveled (pos n) k small h = quotient false n k (of_int binary64 (pos n)) (of_int binary64 (pos (2 ^ k))) (omega arith) h (whole_exact binary64 n (omega arith)) (scale k h)
+leveled (negsuc n) k small h =
+    quotient true (suc n) k (of_int binary64 (negsuc n)) (of_int binary64 (pos (2 ^ k))) (omega arith) h (round_whole binary64 true (suc n) (omega arith)) (scale k h)
+
+pub kept : (b : Bits) (v : ℕ) → v < 2 ^ 32 → narrow (div binary64 (of_int binary64 (whole b v)) (of_int binary64 (pos (full b)))) ≡ sample b v
+unfolding whole sample
+kept bits.Eight v h = leveled (minus v 128) 7 (minus_size v 128 h (lit≤ tt)) (lit≤ tt)
+kept bits.Sixteen v h = leveled (signed 32768 v) 15 (signed_size 32768 v h (lit≤ tt)) (lit≤ tt)
+kept bits.TwentyFour v h = leveled (signed 8388608 v) 23 (signed_size 8388608 v h (lit≤ tt)) (lit≤ tt)
+kept bits.ThirtyTwo v h = leveled (signed 2147483648 v) 31 (signed_size 2147483648 v h (lit≤ tt)) (lit≤ tt)
