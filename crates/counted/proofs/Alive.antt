@@ -13,7 +13,7 @@ use Rattle.buffer.specs.Answers.{after_checks}
 use Rattle.buffer.specs.declared.refusals.Refusal.{Refusal}
 use Rattle.buffer.proofs.Checks.{all_passed}
 use Rattle.seconds.specs.Seconds.{one, block_end}
-use Rattle.player.specs.Block.{Plan, is_aligned, aligned_plan, sub_sample_plan, plan, bad_block_time, bad_rate, bad_samples, checked, rendered, report_of}
+use Rattle.player.specs.Block.{Plan, is_aligned, aligned_plan, sub_sample_plan, plan, bare_plan, ramped_plan, bad_block_time, bad_rate, bad_samples, checked, rendered, report_of}
 use Rattle.player.specs.Record.{fresh_with}
 use Rattle.player.specs.declared.Player.{Player}
 use Rattle.player.specs.declared.PlayerOptions.{PlayerOptions}
@@ -40,7 +40,7 @@ either a l true p q u w e f g h = simp (e, f) g
 either a l false p q u w e f g h = simp (e, f) h
 
 plan_keeps : (s : Setup) (x : State) (t : Float) → (x.ended ≡ false → le (block_end 128 t s.rate) x.start ≡ false) → (plan 128 (standing s x) t one one).keep_alive ≡ not x.ended
-unfolding plan aligned_plan sub_sample_plan
+unfolding bare_plan ramped_plan aligned_plan sub_sample_plan
 plan_keeps s x t early = go x.ended refl
   where
     go : (b : Bool) → x.ended ≡ b → (plan 128 (standing s x) t one one).keep_alive ≡ not x.ended
@@ -61,29 +61,29 @@ pub record Accepted (rate : Float) (channels frames : ℕ) (samples : List ℕ) 
   pub shape : valid_shape channels frames (length samples) ≡ true
   pub alive : keep_alive_of e ≡ not (is_ended e.before)
 
-module _ (rate : Float) (options : PlayerOptions) (f : T (fits binary32 rate)) (ok : T (valid_rate rate)) (calls : List Call) (ty : T (all_typed calls)) (h : Premises rate (taken rate options calls)) where
+module _ (rate : Float) (options : PlayerOptions) (quiet : options.ramp ≡ 0) (f : T (fits binary32 rate)) (ok : T (valid_rate rate)) (calls : List Call) (ty : T (all_typed calls)) (h : Premises rate (taken rate options calls)) where
   abbrev es : List Event
   es = taken rate options calls
 
   abbrev g : Ground
-  g = ground rate options f ok calls ty (begins_of rate es h)
+  g = ground rate options quiet f ok calls ty (begins_of rate es h)
 
   abbrev s : Setup
   s = g.setup
 
   abbrev looped : Bool
-  looped = (got rate options f ok calls ty (begins_of rate es h)).looped
+  looped = (got rate options quiet f ok calls ty (begins_of rate es h)).looped
 
-  at_first : Moment g (Meets s.stop) (begun looped) (first rate options f ok calls ty (begins_of rate es h)) (playing es)
+  at_first : Moment g (Meets s.stop) (begun looped) (first rate options quiet f ok calls ty (begins_of rate es h)) (playing es)
   at_first =
-      moment rate options f ok calls ty (begins_of rate es h) (Meets s.stop) (only_steps_of h.clip.samples (playing es) h.only_blocks)
+      moment rate options quiet f ok calls ty (begins_of rate es h) (Meets s.stop) (only_steps_of h.clip.samples (playing es) h.only_blocks)
       (subst (λ (ts : List Step). T (stays_off 128 h.clip.frames (begun looped) ts)) (sym (steps_of h.clip.samples (playing es) h.only_blocks)) (off_blocks 128 h.clip.frames (length (playing es)) _))
 
   module _ (front : List Event) (e : Event) (back : List Event) (split : playing es ≡ front ++ (e ∷ back)) where
-    reached : Reached g (Meets s.stop) (stepped_all 128 h.clip.frames (begun looped) (gathered step_in front)) (after_all (standing s (first rate options f ok calls ty (begins_of rate es h))) front) (e ∷ back)
+    reached : Reached g (Meets s.stop) (stepped_all 128 h.clip.frames (begun looped) (gathered step_in front)) (after_all (standing s (first rate options quiet f ok calls ty (begins_of rate es h))) front) (e ∷ back)
     reached =
-        reach g (Meets s.stop) (up_reach g) front (e ∷ back) (begun looped) (first rate options f ok calls ty (begins_of rate es h))
-        (subst (Moment g (Meets s.stop) (begun looped) (first rate options f ok calls ty (begins_of rate es h))) split at_first) (hits_reach g front)
+        reach g (Meets s.stop) (up_reach g) front (e ∷ back) (begun looped) (first rate options quiet f ok calls ty (begins_of rate es h))
+        (subst (Moment g (Meets s.stop) (begun looped) (first rate options quiet f ok calls ty (begins_of rate es h))) split at_first) (hits_reach g front)
 
     x : State
     x = reached.state
@@ -124,7 +124,7 @@ module _ (rate : Float) (options : PlayerOptions) (f : T (fits binary32 rate)) (
       out = c.out;
       time = c.time;
       is = c.is;
-      before = reached.moment.chain.0.got ∙ sym reached.player ∙ ap (λ (p : Player). after_all p front) (sym (first_is rate options f ok calls ty (begins_of rate es h)));
+      before = reached.moment.chain.0.got ∙ sym reached.player ∙ ap (λ (p : Player). after_all p front) (sym (first_is rate options quiet f ok calls ty (begins_of rate es h)));
       whole = took.whole;
       shape = shape_is;
       alive = ap₂ (λ (p : Player) (d : Call). keep_alive_by p d) reached.moment.chain.0.got c.is ∙ keeps ∙ ap (λ (p : Player). not (is_ended p)) (sym reached.moment.chain.0.got);

@@ -51,7 +51,7 @@ ends_by rate looped l k t p u b n = go t.ended refl t.exact_fit refl
         absurd (true≢false (sym fit ∙ n))
     go false e false f = b.not_before e f ∙ sym (under looped refl (λ off. u.inside e off) n)
 
-module _ (stated : LoopSwitch) (rate : Float) (options : PlayerOptions) (f : T (fits binary32 rate)) (ok : T (valid_rate rate)) (calls : List Call) (ty : T (all_typed calls)) (h : Premises rate (taken rate options calls)) (none : gathered stop_in (opening (taken rate options calls)) ≡ []) where
+module _ (stated : LoopSwitch) (rate : Float) (options : PlayerOptions) (quiet : options.ramp ≡ 0) (f : T (fits binary32 rate)) (ok : T (valid_rate rate)) (calls : List Call) (ty : T (all_typed calls)) (h : Premises rate (taken rate options calls)) (none : gathered stop_in (opening (taken rate options calls)) ≡ []) where
   abbrev es : List Event
   es = taken rate options calls
 
@@ -62,7 +62,7 @@ module _ (stated : LoopSwitch) (rate : Float) (options : PlayerOptions) (f : T (
   b = begins_of rate es h
 
   long : 0 < h.clip.frames
-  long = (sound rate options f ok calls ty b).long
+  long = (sound rate options quiet f ok calls ty b).long
 
   clip_is : (c : Clip) → gathered clip_in (opening es) ≡ c ∷ [] → c ≡ h.clip
   clip_is c e = same (sym e ∙ h.one_clip)
@@ -74,25 +74,25 @@ module _ (stated : LoopSwitch) (rate : Float) (options : PlayerOptions) (f : T (
   tape_at : (front back : List Event) → playing es ≡ front ++ back → Unswitched 128 h.clip.frames on (length front) (tape_after h.clip.frames (opening es ++ front))
   tape_at front back split =
       subst (Unswitched 128 h.clip.frames on (length front)) (sym steps)
-      (unswitched_after 128 h.clip.frames (lit< tt) long on (length front) (begun (got rate options f ok calls ty b).looped)
+      (unswitched_after 128 h.clip.frames (lit< tt) long on (length front) (begun (got rate options quiet f ok calls ty b).looped)
       (subst (λ (c : Bool). Unswitched 128 h.clip.frames on 0 (begun c)) (sym (loop_of_switch (opening es) h.few_switches)) (unswitched_none 128 h.clip.frames on)))
     where
       only : OnlyBlocks h.clip.samples front
       only = only_front h.clip.samples front back (subst (OnlyBlocks h.clip.samples) split h.only_blocks)
 
-      steps : tape_after h.clip.frames (opening es ++ front) ≡ stepped_all 128 h.clip.frames (begun (got rate options f ok calls ty b).looped) (replicate (length front) a_block)
+      steps : tape_after h.clip.frames (opening es ++ front) ≡ stepped_all 128 h.clip.frames (begun (got rate options quiet f ok calls ty b).looped) (replicate (length front) a_block)
       steps =
           ap (stepped_all 128 h.clip.frames tape.fresh) (gathered_both step_in (opening es) front)
           ∙ stepped_on 128 h.clip.frames tape.fresh (gathered step_in (opening es)) (gathered step_in front)
-          ∙ ap (λ (t : Tape). stepped_all 128 h.clip.frames t (gathered step_in front)) (tape_is rate options f ok calls ty b 128)
-          ∙ ap (stepped_all 128 h.clip.frames (begun (got rate options f ok calls ty b).looped)) (steps_of h.clip.samples front only)
+          ∙ ap (λ (t : Tape). stepped_all 128 h.clip.frames t (gathered step_in front)) (tape_is rate options quiet f ok calls ty b 128)
+          ∙ ap (stepped_all 128 h.clip.frames (begun (got rate options quiet f ok calls ty b).looped)) (steps_of h.clip.samples front only)
 
   pub moment : (front back : List Event) → playing es ≡ front ++ back → is_fit on h.clip.frames (length front) ≡ false
       → is_ended (after_all (after_all (fresh_with rate options) (opening es)) front) ≡ (not on && leb h.clip.frames (128 * length front))
   moment front back split n =
       let premises : SwitchPremises rate es = stated.older rate options calls h none in
       let parts : es ≡ (opening es ++ front) ++ back = both_parts es ∙ ap (λ (r : List Event). opening es ++ r) split ∙ sym (append_assoc (opening es) front back) in
-      let side = (stated.switched rate options f ok calls ty premises).beside (opening es ++ front) back parts in
+      let side = (stated.switched rate options quiet f ok calls ty premises).beside (opening es ++ front) back parts in
       ap is_ended (sym (after_both (fresh_with rate options) (opening es) front))
       ∙ ends_by rate on h.clip.frames (length front) (tape_after h.clip.frames (opening es ++ front)) (after_all (fresh_with rate options) (opening es ++ front)) (tape_at front back split)
       (subst (λ (c : Clip). switch.Beside rate (tape_after c.frames (opening es ++ front)) (after_all (fresh_with rate options) (opening es ++ front))) (clip_is premises.clip premises.one_clip) side) n

@@ -14,12 +14,13 @@ use Rattle.player.specs.declared.PlayerOptions.{PlayerOptions}
 use Rattle.player.specs.Record.{fresh_with}
 use Rattle.player.specs.Messages.{clamped_start, clamped_end, clamped, bad_time, on_start, on_stop, on_loop, handled, buffered}
 use Rattle.aligned.specs.Aligned.{first_frame, ends_within, aligned_sample, played, next_frame, last_wrap, aligned_position}
-use Rattle.player.specs.Block.{idle, start_at, is_aligned, has_ended, turns_over, aligned_plan, plan, bad_block_time, bad_rate, bad_samples, checked, rendered, written, output}
+use Rattle.player.specs.Block.{idle, start_at, is_aligned, has_ended, turns_over, aligned_plan, bare_plan, ramp_in, ramped_plan, bad_block_time, bad_rate, bad_samples, checked, rendered, written, output}
 use Rattle.counting.specs.Counting as counting
 use Rattle.claims.specs.Calls.{Call, all_typed, accepts, next, accepted, opening, playing, Clip, Started, clip_in, start_in, stop_in, switch_in, point_in, gathered}
 use Rattle.claims.specs.LongRun.{starts_in_time, OnlyBlocks}
+use Rattle.ramps.specs.Ramps.{numerator, ramped, counted, stop_number, stopping}
 use Rattle.claims.specs.Instances as claimed
-use Rattle.claims.specs.Instances.{rate, looped_calls, plain_calls, longer_calls, previewed_calls}
+use Rattle.claims.specs.Instances.{unramped, rate, looped_calls, plain_calls, longer_calls, previewed_calls}
 use Rattle.claims.specs.Longer.{replaced}
 use Rattle.cents.specs.Cents.{checked_cents, rendered_cents}
 use Rattle.detune.specs.Table.{entries}
@@ -63,42 +64,42 @@ two_channels l = record { channels = 2; frames = l; rate = rate; samples = frame
 
 pub instances : Instances
 unfolding replaced checked_cents rendered_cents bad_cents factor_of octaves above entries accepted accepts next opening playing handled buffered on_start on_stop on_loop bad_time clamped clamped_start clamped_end fresh_with valid_rate valid_shape duration
-    rendered checked bad_block_time bad_rate bad_samples plan is_aligned start_at aligned_plan has_ended turns_over output written put table
+    rendered checked bad_block_time bad_rate bad_samples bare_plan ramped_plan ramp_in numerator ramped counted stop_number stopping is_aligned start_at aligned_plan has_ended turns_over output written put table
     first_frame ends_within aligned_sample played next_frame last_wrap aligned_position dt block_seconds block_end idle
     counting.has_ended counting.frame_at counting.sample counting.counted_on counting.report counting.checked counting.rendered counting.output two_channels
     round_away of_bits of_int round sum add mul div rem lt le eq ne neg sub to_unsigned fits
 instances = record {
-  looped = λ options. record {
-    met = met options claimed.the_clip looped_calls refl tt refl refl tt (lit≤ tt) refl (lit≤ tt) refl ((refl, refl, refl), ((refl, refl, refl), tt));
+  looped = λ t. record {
+    met = met (unramped t) claimed.the_clip looped_calls refl tt refl refl tt (lit≤ tt) refl (lit≤ tt) refl ((refl, refl, refl), ((refl, refl, refl), tt));
     first_is = refl;
     counted_is = refl;
   };
-  plain = λ options. record {
-    met = met options claimed.the_clip plain_calls refl tt refl refl tt (lit≤ tt) refl (lit≤ tt) refl ((refl, refl, refl), ((refl, refl, refl), tt));
+  plain = λ t. record {
+    met = met (unramped t) claimed.the_clip plain_calls refl tt refl refl tt (lit≤ tt) refl (lit≤ tt) refl ((refl, refl, refl), ((refl, refl, refl), tt));
     first_is = refl;
     counted_is = refl;
   };
-  looped_heard = λ options. refl;
-  plain_heard = λ options. refl;
-  in_cents = λ options. record {
-    met = met options claimed.the_clip (replaced (fresh_with rate options) longer_calls) refl tt refl refl tt (lit≤ tt) refl (lit≤ tt) refl ((refl, refl, refl), ((refl, refl, refl), tt));
+  looped_heard = λ t. refl;
+  plain_heard = λ t. refl;
+  in_cents = λ t. record {
+    met = met (unramped t) claimed.the_clip (replaced (fresh_with rate (unramped t)) longer_calls) refl tt refl refl tt (lit≤ tt) refl (lit≤ tt) refl ((refl, refl, refl), ((refl, refl, refl), tt));
     first_is = refl;
     counted_is = refl;
   };
-  previewed = λ options. record {
-    met = met options claimed.the_clip (replaced (fresh_with rate options) previewed_calls) refl tt refl refl tt (lit≤ tt) refl (lit≤ tt) refl ((refl, refl, refl), ((refl, refl, refl), tt));
+  previewed = λ t. record {
+    met = met (unramped t) claimed.the_clip (replaced (fresh_with rate (unramped t)) previewed_calls) refl tt refl refl tt (lit≤ tt) refl (lit≤ tt) refl ((refl, refl, refl), ((refl, refl, refl), tt));
     first_is = refl;
     counted_is = refl;
   };
-  fit_later = λ options. record {
+  fit_later = λ t. record {
     met =
-        met options (two_channels 640) (calls_at 640 seven_times) refl tt refl refl tt (lit≤ tt) refl (lit≤ tt) refl
+        met (unramped t) (two_channels 640) (calls_at 640 seven_times) refl tt refl refl tt (lit≤ tt) refl (lit≤ tt) refl
         ((refl, refl, refl), ((refl, refl, refl), ((refl, refl, refl), ((refl, refl, refl), ((refl, refl, refl), ((refl, refl, refl), ((refl, refl, refl), tt)))))));
     first_is = refl;
     counted_is = refl;
   };
-  fit_at_once = λ options. record {
-    met = met options (two_channels 128) (calls_at 128 two_times) refl tt refl refl tt (lit≤ tt) refl (lit≤ tt) refl ((refl, refl, refl), ((refl, refl, refl), tt));
+  fit_at_once = λ t. record {
+    met = met (unramped t) (two_channels 128) (calls_at 128 two_times) refl tt refl refl tt (lit≤ tt) refl (lit≤ tt) refl ((refl, refl, refl), ((refl, refl, refl), tt));
     first_is = refl;
     counted_is = refl;
   };

@@ -35,7 +35,7 @@ use Rattle.counted.proofs.Ends.{moment}
 use Rattle.counted.proofs.Alive.{Accepted, accepted_block}
 use Rattle.counted.proofs.Counter.{reports_alive, reports_channels, reports_ended, rendered_is, output_at, Lent, counted_is, blocks_keep, ends_at, bits_at}
 
-module _ (run : LongRun) (switch : LoopSwitch) (counts : TheCounter) (rate : Float) (options : PlayerOptions) (f : T (fits binary32 rate)) (ok : T (valid_rate rate)) (calls : List Call)
+module _ (run : LongRun) (switch : LoopSwitch) (counts : TheCounter) (rate : Float) (options : PlayerOptions) (quiet : options.ramp ≡ 0) (f : T (fits binary32 rate)) (ok : T (valid_rate rate)) (calls : List Call)
     (ty : T (all_typed calls)) (h : Premises rate (taken rate options calls)) (none : gathered stop_in (opening (taken rate options calls)) ≡ []) where
   abbrev es : List Event
   es = taken rate options calls
@@ -57,7 +57,7 @@ module _ (run : LongRun) (switch : LoopSwitch) (counts : TheCounter) (rate : Flo
   start = after_all (fresh_with rate options) (opening es)
 
   within : Sound channels l rate
-  within = sound rate options f ok calls ty (begins_of rate es h)
+  within = sound rate options quiet f ok calls ty (begins_of rate es h)
 
   made : counting.made channels l on ≡ Ok counter
   unfolding counting.made valid_shape
@@ -98,20 +98,20 @@ module _ (run : LongRun) (switch : LoopSwitch) (counts : TheCounter) (rate : Flo
     k = length front
 
     taken_block : Accepted rate channels l h.clip.samples (after_all start front) e
-    taken_block = accepted_block rate options f ok calls ty h front e back split
+    taken_block = accepted_block rate options quiet f ok calls ty h front e back split
 
     stands : counted_all counter front ≡ at k
     stands =
         counted_is channels l counter refl refl front
-        (λ fore d rest s. lent (after_all start fore) d (accepted_block rate options f ok calls ty h fore d (rest ++ (e ∷ back)) (split ∙ ap (λ (r : List Event). r ++ (e ∷ back)) s ∙ append_assoc fore (d ∷ rest) (e ∷ back))))
+        (λ fore d rest s. lent (after_all start fore) d (accepted_block rate options quiet f ok calls ty h fore d (rest ++ (e ∷ back)) (split ∙ ap (λ (r : List Event). r ++ (e ∷ back)) s ∙ append_assoc fore (d ∷ rest) (e ∷ back))))
 
     held : Block rate on h.clip (gathered stop_in (opening es)) front e back
-    held = (run rate options f ok calls ty h).each front e back split
+    held = (run rate options quiet f ok calls ty h).each front e back split
 
     -- whether each has ended before the block
     ended_before : is_fit on l k ≡ false → is_ended e.before ≡ has_ended (at k)
     ended_before n =
-        ap is_ended taken_block.before ∙ moment switch rate options f ok calls ty h none front (e ∷ back) split n
+        ap is_ended taken_block.before ∙ moment switch rate options quiet f ok calls ty h none front (e ∷ back) split n
         ∙ sym (ends_at l on k (at k) (so k))
 
     -- and after it
@@ -121,7 +121,7 @@ module _ (run : LongRun) (switch : LoopSwitch) (counts : TheCounter) (rate : Flo
         let more = length_more front e in
         reports_ended (at k) ∙ ends_at l on (suc k) (at (suc k)) (so (suc k))
         ∙ ap (λ (j : ℕ). not on && leb l (128 * j)) (sym more)
-        ∙ sym (moment switch rate options f ok calls ty h none (front ++ (e ∷ [])) back (split ∙ one_more front e back) (ap (is_fit on l) more ∙ n))
+        ∙ sym (moment switch rate options quiet f ok calls ty h none (front ++ (e ∷ [])) back (split ∙ one_more front e back) (ap (is_fit on l) more ∙ n))
         ∙ ap is_ended (after_both start front (e ∷ []))
 
     beside : Beside on l k (at k) e
@@ -162,8 +162,8 @@ never_fits false l k h = go (eqb l (128 * k)) refl
 
 pub counts_beside : LongRun → LoopSwitch → TheCounter → Exact → CountsBeside
 counts_beside run switch counts exact = record {
-  beside = λ rate options f ok calls ty h none. all_beside run switch counts rate options f ok calls ty h none;
-  longer = λ rate options f ok calls ty h none.
-      all_beside run switch counts rate options f ok (replaced (fresh_with rate options) calls) (all_typed_lem exact.held (fresh_with rate options) calls ty) h none;
+  beside = λ rate options quiet f ok calls ty h none. all_beside run switch counts rate options quiet f ok calls ty h none;
+  longer = λ rate options quiet f ok calls ty h none.
+      all_beside run switch counts rate options quiet f ok (replaced (fresh_with rate options) calls) (all_typed_lem exact.held (fresh_with rate options) calls ty) h none;
   no_fit = never_fits;
 }

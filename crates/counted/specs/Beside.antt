@@ -102,13 +102,14 @@ abbrev pub BesideAll : (es : List Event) → Clip → Type 0
 BesideAll es clip = AllBeside (switched_on (gathered switch_in (opening es))) clip (playing es)
 
 pub record CountsBeside : Type 0 where
-  -- under the premises of the long run, where no stop is sent
-  pub beside : (rate : Float) (options : PlayerOptions) → T (fits binary32 rate) → T (valid_rate rate) → (calls : List Call)
-      → T (all_typed calls) → (h : Premises rate (taken rate options calls)) → gathered stop_in (opening (taken rate options calls)) ≡ []
+  -- under the premises of the long run, without a ramp, where no stop is sent
+  pub beside : (rate : Float) (options : PlayerOptions) → options.ramp ≡ 0 → T (fits binary32 rate) → T (valid_rate rate)
+      → (calls : List Call) → T (all_typed calls) → (h : Premises rate (taken rate options calls))
+      → gathered stop_in (opening (taken rate options calls)) ≡ []
       → BesideAll (taken rate options calls) h.clip
   -- with blocks in cents and previews beside the other calls
-  pub longer : (rate : Float) (options : PlayerOptions) → T (fits binary32 rate) → T (valid_rate rate) → (calls : List LongerCall)
-      → T (all_typed_longer calls) → (h : Premises rate (taken_longer rate options calls))
+  pub longer : (rate : Float) (options : PlayerOptions) → options.ramp ≡ 0 → T (fits binary32 rate) → T (valid_rate rate)
+      → (calls : List LongerCall) → T (all_typed_longer calls) → (h : Premises rate (taken_longer rate options calls))
       → gathered stop_in (opening (taken_longer rate options calls)) ≡ [] → BesideAll (taken_longer rate options calls) h.clip
   -- looped, and with a length that is no multiple of 128, there is no fit: all is equal in every block
   pub no_fit : (looped : Bool) (l k : ℕ) → (looped || not (eqb (l % 128) 0)) ≡ true → is_fit looped l k ≡ false

@@ -9,11 +9,12 @@ use Rattle.buffer.specs.declared.refusals.Refusal.{Refusal}
 use Rattle.seconds.specs.Seconds.{float_zero, one}
 use Rattle.player.specs.Record.{fresh_with}
 use Rattle.player.specs.declared.PlayerOptions.{PlayerOptions}
+use Rattle.tolerances.specs.declared.Tolerances.{Tolerances}
 use Rattle.counting.specs.declared.Counter.{Counter}
 use Rattle.counting.specs.declared.Counted.{Counted}
 use Rattle.claims.specs.Calls.{Call, buffer, block, all_typed, Event, after, channels_of, is_ended, opening, playing, stop_in, gathered}
 use Rattle.claims.specs.LongRun.{Premises}
-use Rattle.claims.specs.Instances.{rate, start, tick, tock, looped_calls, plain_calls, longer_calls, previewed_calls, all_heard}
+use Rattle.claims.specs.Instances.{unramped, rate, start, tick, tock, looped_calls, plain_calls, longer_calls, previewed_calls, all_heard}
 use Rattle.claims.specs.Longer.{replaced}
 use Rattle.counted.specs.Beside.{counted_by, left_by, counted_output, keep_alive_of, taken}
 
@@ -90,24 +91,24 @@ pub record Both (options : PlayerOptions) (calls : List Call) (counter : Counter
   pub first_is : first_seen options calls ≡ first
   pub counted_is : counted_seen counter (playing (taken rate options calls)) ≡ counted
 
--- whatever the player is made with
+-- whatever tolerances the player is made with, without a ramp
 pub record Instances : Type 0 where
   -- looped, and unlooped with three frames: the same in every block, and the same samples
-  pub looped : (options : PlayerOptions) → Both options looped_calls (counter_of 1 3 true) (plays 1 ∷ plays 1 ∷ []) (plays 1 ∷ plays 1 ∷ [])
-  pub plain : (options : PlayerOptions) → Both options plain_calls (counter_of 1 3 false) (ends 1 ∷ over ∷ []) (ends 1 ∷ over ∷ [])
-  pub looped_heard : (options : PlayerOptions) → counted_heard (counter_of 1 3 true) (playing (taken rate options looped_calls))
-      ≡ all_heard (playing (taken rate options looped_calls))
-  pub plain_heard : (options : PlayerOptions) → counted_heard (counter_of 1 3 false) (playing (taken rate options plain_calls))
-      ≡ all_heard (playing (taken rate options plain_calls))
+  pub looped : (t : Tolerances) → Both (unramped t) looped_calls (counter_of 1 3 true) (plays 1 ∷ plays 1 ∷ []) (plays 1 ∷ plays 1 ∷ [])
+  pub plain : (t : Tolerances) → Both (unramped t) plain_calls (counter_of 1 3 false) (ends 1 ∷ over ∷ []) (ends 1 ∷ over ∷ [])
+  pub looped_heard : (t : Tolerances) → counted_heard (counter_of 1 3 true) (playing (taken rate (unramped t) looped_calls))
+      ≡ all_heard (playing (taken rate (unramped t) looped_calls))
+  pub plain_heard : (t : Tolerances) → counted_heard (counter_of 1 3 false) (playing (taken rate (unramped t) plain_calls))
+      ≡ all_heard (playing (taken rate (unramped t) plain_calls))
   -- with blocks in cents and previews, which the counter passes over
-  pub in_cents : (options : PlayerOptions) → Both options (replaced (fresh_with rate options) longer_calls) (counter_of 1 3 true)
+  pub in_cents : (t : Tolerances) → Both (unramped t) (replaced (fresh_with rate (unramped t)) longer_calls) (counter_of 1 3 true)
       (plays 1 ∷ plays 1 ∷ []) (plays 1 ∷ plays 1 ∷ [])
-  pub previewed : (options : PlayerOptions) → Both options (replaced (fresh_with rate options) previewed_calls) (counter_of 1 3 false)
+  pub previewed : (t : Tolerances) → Both (unramped t) (replaced (fresh_with rate (unramped t)) previewed_calls) (counter_of 1 3 false)
       (ends 1 ∷ over ∷ []) (ends 1 ∷ over ∷ [])
   -- 640 frames, five blocks exactly: the counter ends with the fifth, the first player with the sixth
-  pub fit_later : (options : PlayerOptions) → Both options (calls_at 640 seven_times) (counter_of 2 640 false)
+  pub fit_later : (t : Tolerances) → Both (unramped t) (calls_at 640 seven_times) (counter_of 2 640 false)
       (plays 2 ∷ plays 2 ∷ plays 2 ∷ plays 2 ∷ plays 2 ∷ ends 2 ∷ over ∷ [])
       (plays 2 ∷ plays 2 ∷ plays 2 ∷ plays 2 ∷ ends 2 ∷ over ∷ over ∷ [])
   -- 128 frames, one block exactly: both end with it
-  pub fit_at_once : (options : PlayerOptions) → Both options (calls_at 128 two_times) (counter_of 2 128 false) (ends 2 ∷ over ∷ [])
+  pub fit_at_once : (t : Tolerances) → Both (unramped t) (calls_at 128 two_times) (counter_of 2 128 false) (ends 2 ∷ over ∷ [])
       (ends 2 ∷ over ∷ [])
