@@ -1,12 +1,11 @@
 -- Files that can be mended by hand (docs/REFERENCE.md, 'Mending'). They meet the premises of what is stated about mended files.
-use Rattle.std.specs.Prelude.{◌≡◌, true, false, List, [], ◌∷◌, ◌++◌, ℕ, length, take, replicate, Ok, Err}
+use Rattle.std.specs.Prelude.{◌≡◌, true, false, List, [], ◌∷◌, ◌++◌, ℕ, take, replicate, Ok, Err}
 use Rattle.buffer.specs.declared.refusals.Refusal.TheVariants as refused
 use Rattle.clip.specs.Reading.{read_with_onset}
 use Rattle.clip.specs.Statement.{Below}
 use Rattle.clip.specs.Known.{old_clip, new_clip, header}
 use Rattle.mending.specs.Mending.{mended, mend_answer, mend_out}
 use Rattle.mending.specs.Statement.{unaltered}
-use Rattle.mending.specs.declared.Mended.{Mended}
 
 -- the words below 256 as bytes
 unfoldable pub small_words : List ℕ → List ℕ

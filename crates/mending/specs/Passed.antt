@@ -1,12 +1,12 @@
 -- What is known of a file whose checks pass (docs/REFERENCE.md, 'Mending'): each has passed, and the answer is what stands behind them.
-use Rattle.std.specs.Prelude.{◌≡◌, Bool, true, false, not, ◌&&◌, cond, ℕ, ◌+◌, ◌*◌, ◌≤◌, ◌<◌, List, leb, eqb, length, Ok, Err}
+use Rattle.std.specs.Prelude.{◌≡◌, Bool, true, false, not, ◌&&◌, cond, ℕ, ◌≤◌, List, leb, eqb, length, Ok, Err}
 use Rattle.std.proofs.Common.{refl, leb-true, eqb-true}
 use Rattle.std.specs.Float.{binary32}
 use Rattle.std.specs.Float.Ieee.{of_bits}
 use Rattle.buffer.specs.Limits.{max_channels, valid_rate}
 use Rattle.buffer.specs.Answers.{after_checks}
 use Rattle.buffer.specs.declared.refusals.Refusal.{Refusal}
-use Rattle.clip.specs.Layout.{header_length, max_length}
+use Rattle.clip.specs.Layout.{max_length}
 use Rattle.clip.specs.Reading.{length_field, channels_field, rate_field, has_length, form_of}
 use Rattle.mending.specs.Mending.{header_of_file, has_header, has_channels, frames_held, mend_checks}
 
