@@ -34,7 +34,7 @@ abbrev pub one_left : List ℕ
 one_left =
     0x14 ∷ 0 ∷ 1 ∷ 0 ∷ 1 ∷ 0 ∷ 0 ∷ 0 ∷ 0 ∷ 0x80 ∷ 0x3B ∷ 0x47 ∷ 0 ∷ 0 ∷ 0 ∷ 0 ∷ 0x14 ∷ 0 ∷ 0 ∷ 0 ∷ 0 ∷ 0 ∷ 0 ∷ 0 ∷ []
 
--- a file of the header's length and the channel count, and a rate that is refused
+-- a file of a header's length and a channel count, two bytes each, and zeros: so the rate is refused
 abbrev pub no_rate : ℕ → ℕ → ℕ → ℕ → ℕ → List ℕ
 no_rate length_low length_high channels_low channels_high rest = length_low ∷ length_high ∷ channels_low ∷ channels_high ∷ replicate rest 0
 
