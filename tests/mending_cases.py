@@ -274,8 +274,8 @@ def mend(folder, *words, **more):
 def tool(r, folder):
     """./mend with the proved program: another file, the file itself, and --check."""
     source, target = Path(folder, "cut clip.bin"), Path(folder, "made.bin")
-    files = [whole(r, *WHOLE[n % len(WHOLE)]) for n in range(12)] + [random_file(r) for _ in range(40)] + [b"", bytes(LONGEST + 1)]
-    files += [data[:-1] for data in files[:12]]
+    files = [whole(r, *WHOLE[4 * n + 1]) for n in range(6)] + [random_file(r) for _ in range(14)] + [b"", bytes(LONGEST + 1)]
+    files += [data[:-1] for data in files[:6]]
     for data in files:
         number, file = mended(data)
         source.write_bytes(data)

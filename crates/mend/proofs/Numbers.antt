@@ -1,5 +1,5 @@
 -- The numbers of a list, one after another. Assumes nothing.
-use Rattle.std.proofs.Common.{◌≡◌, refl, ap, sym, ◌∙◌, List, [], ◌∷◌, ◌++◌, ℕ, ◌+◌, ◌<◌, ◌≤◌, length, get_or, drop, append_assoc, append-nil, drop-cons, add-one}
+use Rattle.std.proofs.Common.{◌≡◌, ap, sym, ◌∙◌, List, ◌++◌, ℕ, ◌+◌, ◌<◌, ◌≤◌, length, get_or, drop, append_assoc, append-nil, drop-cons, add-one}
 use lib.ListN.{drop_of_length-le}
 use Rattle.std.specs.Prelude.{codes, decimal}
 use Rattle.mend.specs.Told.{numbers}

@@ -1,5 +1,5 @@
 -- What the program `mend` writes of its input's bytes (docs/REFERENCE.md, 'Mending'). Definitions only.
-use Rattle.std.specs.Prelude.{Bool, cond, ℕ, List, [], ◌∷◌, ◌++◌, length, codes, decimal, Result, Ok, Err}
+use Rattle.std.specs.Prelude.{cond, ℕ, List, [], ◌∷◌, ◌++◌, length, codes, decimal, Result, Ok, Err}
 use Rattle.lists.specs.Table.{table}
 use Rattle.buffer.specs.Refusals.{number}
 use Rattle.buffer.specs.declared.refusals.Refusal.{Refusal}

@@ -1,18 +1,17 @@
 -- The mended file as the new reader takes it, sound files, and mending once more. Assumes nothing.
 use mathlib.Core.Path.{◌≡◌, refl, ap, sym, ◌∙◌, subst}
-use mathlib.Core.Bool.{Bool, true, false, not}
+use mathlib.Core.Bool.{true}
 use mathlib.Core.List.{List}
 use Prim.Native.Nat.{ℕ, ◌+◌, ◌-◌, ◌*◌, ◌/◌, ◌≤◌, ◌<◌}
-use native.Mathlib.Nat.{mul-div_cancel_left, mul_comm}
+use native.Mathlib.Nat.{mul-div_cancel_left}
 use native.Mathlib.Omega.{arith}
-use lib.Dec.{leb, ltb, eqb}
+use lib.Dec.{eqb}
 use lib.ListN.{length}
-use lib.Ieee.{of_bits, binary32}
-use borrow.Author.Tests.{le-leb, eq-eqb, ne_eqb, lt-ltb, le-ltb, ltb-true}
-use Rattle.std.specs.Prelude.{min, Ok}
-use Rattle.buffer.specs.Limits.{valid_shape, valid_rate, valid, max_channels}
-use Rattle.clip.specs.Layout.{header_length, file_length, max_length, layout}
-use Rattle.clip.specs.Reading.{number, length_field, channels_field, frames_field, rate_field, onset_field, frames_from, offsets_match, is_layout, header_of, form_of, clip_checks, read_as, read_with_onset}
+use borrow.Author.Tests.{le-leb, eq-eqb, ne_eqb, lt-ltb, ltb-true}
+use Rattle.std.specs.Prelude.{Ok}
+use Rattle.buffer.specs.Limits.{valid_shape, valid}
+use Rattle.clip.specs.Layout.{header_length}
+use Rattle.clip.specs.Reading.{length_field, channels_field, frames_field, rate_field, onset_field, frames_from, offsets_match, is_layout, header_of, form_of, read_as, read_with_onset}
 use Rattle.clip.specs.Statement.{Below}
 use Rattle.clip.specs.Passed.{Passed, passes}
 use Rattle.clip.specs.declared.Form.{Form}

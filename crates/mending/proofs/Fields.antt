@@ -1,9 +1,9 @@
 -- The bytes that are written. Assumes nothing.
-use mathlib.Core.Path.{◌≡◌, refl, ap, sym, ◌∙◌}
+use mathlib.Core.Path.{◌≡◌, refl, ap, ◌∙◌}
 use mathlib.Core.List.{List, [], ◌∷◌, ◌++◌, append_assoc}
 use Prim.Native.Nat.{ℕ, ◌+◌, ◌*◌, ◌/◌, ◌%◌, ◌<◌}
 use native.Mathlib.Omega.{arith}
-use lib.ListN.{length, take, drop, drop_of_length-le}
+use lib.ListN.{length, drop_of_length-le}
 use Rattle.lists.specs.Table.{table, over}
 use Rattle.clip.specs.Layout.{bytes, words, onset_bytes, offset, layout}
 use Rattle.clip.specs.Reading.{frames_from}

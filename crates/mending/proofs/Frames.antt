@@ -1,14 +1,13 @@
 -- The frames that a file holds, and the mended file as a clip. Assumes nothing.
-use Rattle.std.proofs.Common.{◌≡◌, refl, ap, sym, ◌∙◌, List, ℕ, ◌+◌, ◌-◌, ◌*◌, ◌/◌, ◌%◌, ◌^◌, ◌≤◌, ◌<◌, min, length, arith}
+use Rattle.std.proofs.Common.{◌≡◌, refl, ◌∙◌, List, ℕ, ◌+◌, ◌-◌, ◌*◌, ◌/◌, ◌%◌, ◌^◌, ◌≤◌, ◌<◌, length, arith}
 use native.Mathlib.Nat.{mod-lt, mod-add-div, mul-le-mul_left, mul-one, mul_comm}
 use Rattle.lists.specs.Table.{length_table}
-use Rattle.clip.specs.Layout.{onset_bytes, header_length, file_length}
-use Rattle.clip.specs.Reading.{channels_field, frames_field, rate_field, onset_field, frames_from, form_of}
+use Rattle.clip.specs.Layout.{onset_bytes, file_length}
+use Rattle.clip.specs.Reading.{channels_field, rate_field, onset_field, frames_from, form_of}
 use Rattle.clip.specs.Statement.{Below, IsClip}
-use Rattle.clip.specs.declared.Form.{Form}
 use Rattle.clip.proofs.Numbers.{number_lt, below_drop}
 use Rattle.clip.proofs.RoundTrip.{length_made, words_below}
-use Rattle.mending.specs.Mending.{header_of_file, frames_held, mended_length, tail_size, mended_onset, mended}
+use Rattle.mending.specs.Mending.{header_of_file, frames_held, mended_length, mended_onset, mended}
 use Rattle.mending.specs.Passed.{Mendable}
 
 -- a number is at least its whole multiples, and below one more

@@ -1,16 +1,16 @@
 -- What stands where in a mended file, and that the marks tell what changed. Assumes nothing.
-use mathlib.Core.Path.{◌≡◌, refl, ap, sym, ◌∙◌, subst}
+use mathlib.Core.Path.{◌≡◌, refl, ap, sym, ◌∙◌}
 use mathlib.Core.Bool.{Bool, true, false, not}
 use mathlib.Core.List.{List, [], ◌++◌, append-nil}
 use Prim.Native.Nat.{ℕ, ◌+◌, ◌*◌, ◌^◌, ◌≤◌, ◌<◌}
 use native.Mathlib.Omega.{arith}
-use lib.Dec.{ltb, eqb}
+use lib.Dec.{eqb}
 use lib.ListN.{length, get_or, take, drop, drop_of_length-le}
 use lib.Seq.{take_at}
 use borrow.Author.Tests.{eqb-true, eq-eqb, ltb-false, le-ltb}
 use Rattle.lists.specs.Table.{table, length_table, get_or_table, table_same}
 use Rattle.clip.specs.Layout.{bytes, words, onset_bytes, header_length, offset}
-use Rattle.clip.specs.Reading.{number, length_field, channels_field, frames_field, rate_field, onset_field, offset_field, frames_from, offsets_match, form_of}
+use Rattle.clip.specs.Reading.{number, length_field, channels_field, offset_field, frames_from, offsets_match, form_of}
 use Rattle.clip.specs.Statement.{Below}
 use Rattle.clip.specs.declared.Form.{Form}
 use Rattle.clip.proofs.Each.{each_at, each_all}
@@ -18,7 +18,7 @@ use Rattle.clip.proofs.LaidOut.{laid_out}
 use Rattle.clip.proofs.Numbers.{length_bytes, below_drop, number_bytes, number_lt, number_four}
 use Rattle.clip.proofs.RoundTrip.{piece}
 use Rattle.clip.proofs.Words.{length_words, word_at, words_numbers}
-use Rattle.mending.specs.Mending.{header_of_file, frames_held, mended_length, tail_size, mended_onset, mended, marks_of}
+use Rattle.mending.specs.Mending.{header_of_file, frames_held, mended_length, tail_size, mended, marks_of}
 use Rattle.mending.specs.Passed.{Mendable}
 use Rattle.mending.specs.Statement.{part, SetUnless, Marked, Kept}
 use Rattle.mending.proofs.Frames.{fits, length_is}

@@ -1,12 +1,11 @@
 -- Files that can be mended by hand (docs/REFERENCE.md, 'Mending'). They meet the premises of what is stated about mended files.
-use Rattle.std.specs.Prelude.{◌≡◌, true, false, List, [], ◌∷◌, ◌++◌, ℕ, length, take, replicate, Ok, Err}
+use Rattle.std.specs.Prelude.{◌≡◌, true, false, List, [], ◌∷◌, ◌++◌, ℕ, take, replicate, Ok, Err}
 use Rattle.buffer.specs.declared.refusals.Refusal.TheVariants as refused
 use Rattle.clip.specs.Reading.{read_with_onset}
 use Rattle.clip.specs.Statement.{Below}
 use Rattle.clip.specs.Known.{old_clip, new_clip, header}
 use Rattle.mending.specs.Mending.{mended, mend_answer, mend_out}
 use Rattle.mending.specs.Statement.{unaltered}
-use Rattle.mending.specs.declared.Mended.{Mended}
 
 -- the words below 256 as bytes
 unfoldable pub small_words : List ℕ → List ℕ
@@ -35,7 +34,7 @@ abbrev pub one_left : List ℕ
 one_left =
     0x14 ∷ 0 ∷ 1 ∷ 0 ∷ 1 ∷ 0 ∷ 0 ∷ 0 ∷ 0 ∷ 0x80 ∷ 0x3B ∷ 0x47 ∷ 0 ∷ 0 ∷ 0 ∷ 0 ∷ 0x14 ∷ 0 ∷ 0 ∷ 0 ∷ 0 ∷ 0 ∷ 0 ∷ 0 ∷ []
 
--- a file of the header's length and the channel count, and a rate that is refused
+-- a file of a header's length and a channel count, two bytes each, and zeros: so the rate is refused
 abbrev pub no_rate : ℕ → ℕ → ℕ → ℕ → ℕ → List ℕ
 no_rate length_low length_high channels_low channels_high rest = length_low ∷ length_high ∷ channels_low ∷ channels_high ∷ replicate rest 0
 

@@ -1,5 +1,6 @@
--- Mending a clip file (docs/REFERENCE.md, 'Mending' and 'Refusals'): the header is made to fit the bytes that stand behind it. Definitions only.
-use Rattle.std.specs.Prelude.{Bool, not, ◌&&◌, cond, List, ℕ, ◌+◌, ◌-◌, ◌*◌, ◌/◌, min, leb, ltb, eqb, length, Result, Ok, Err}
+-- Mending a clip file (docs/REFERENCE.md, 'Mending' and 'Refusals'): the header is made to fit the bytes that stand behind it.
+-- Definitions only.
+use Rattle.std.specs.Prelude.{Bool, not, ◌&&◌, cond, List, ℕ, ◌-◌, ◌*◌, ◌/◌, min, leb, ltb, eqb, length, Result, Ok, Err}
 use Rattle.std.specs.Float.{binary32}
 use Rattle.std.specs.Float.Ieee.{of_bits}
 use Rattle.lists.specs.Table.{over}

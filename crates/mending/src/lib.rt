@@ -9,7 +9,7 @@ mod writing;
 ghost use Rattle.std.specs.Prelude.{◌≡◌, length, IfOk};
 ghost use Rattle.buffer.specs.Answers.{check, after_checks};
 ghost use Rattle.buffer.specs.declared.refusals.Refusal.TheVariants as refused;
-ghost use Rattle.mending.specs.Mending.{has_header, has_channels, frames_held, marks_of, mend_checks, mend_answer, mend_out};
+ghost use Rattle.mending.specs.Mending.{has_header, has_channels, mend_checks, mend_answer, mend_out};
 ghost use Rattle.mending.specs.Passed.{Mendable};
 ghost use Rattle.mending.specs.Held.{held_of};
 ghost use Rattle.clip.specs.Reading.{form_of, header_of};

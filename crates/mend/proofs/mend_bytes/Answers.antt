@@ -1,5 +1,5 @@
 -- By hand: what is written is the mended file's bytes.
-use Rattle.std.proofs.Common.{rules, ◌≡◌, subst, ap, sym, ◌∙◌, List, ℕ, OnErr, take, string_bytes}
+use Rattle.std.proofs.Common.{subst, ap, ◌∙◌, take}
 use Rattle.std.specs.Io.KnownBytes.{Appends}
 use Rattle.session.specs.Running.{AppendsFront}
 use Rattle.session.proofs.Written.{on_err}

@@ -1,12 +1,10 @@
 -- By hand: the answer by what is held, and the output whose front is the mended file.
-use Rattle.std.proofs.Common.{rules, ◌≡◌, refl, ap, sym, ◌∙◌, subst, ◌+◌, ◌-◌, ◌*◌, ◌++◌, ◌≤◌, List, ℕ, length, drop, Ok, arith}
-use Rattle.lists.specs.Table.{over}
+use Rattle.std.proofs.Common.{rules, ◌≡◌, refl, sym, ◌+◌, ◌-◌, ◌*◌, List, ℕ, length, Ok, arith}
 use Rattle.buffer.specs.Answers.{after_checks}
 use Rattle.clip.proofs.HeaderWords.{over_front}
-use Rattle.mending.specs.Mending.{header_of_file, mended_length, mended, marks_of, mend_checks, mend_answer}
+use Rattle.mending.specs.Mending.{mended_length, mended, marks_of, mend_checks, mend_answer}
 use Rattle.mending.specs.Held.{held_of}
 use Rattle.mending.specs.Passed.{Mendable, mend_passes}
-use Rattle.mending.specs.declared.Held.{Held}
 use Rattle.mending.specs.declared.Marks.{Marks}
 use Rattle.mending.proofs.Again.{pass_mend}
 use Rattle.mending.proofs.Frames.{fits, length_is}

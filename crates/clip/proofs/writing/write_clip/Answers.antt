@@ -1,5 +1,5 @@
 -- By hand: the words are the layout's bytes, in a slice of just their length.
-use Rattle.std.proofs.Common.{rules, ◌≡◌, ◌∙◌, ◌+◌, ◌*◌, length, refl, Ok, append_assoc, arith}
+use Rattle.std.proofs.Common.{rules, ◌≡◌, ◌∙◌, length, refl, Ok, append_assoc, arith}
 use Rattle.clip.specs.Layout.{words, layout}
 use Rattle.clip.specs.Writing.{length_to_write, exactly}
 use Rattle.clip.proofs.HeaderWords.{written_whole}

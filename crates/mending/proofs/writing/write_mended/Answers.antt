@@ -1,5 +1,5 @@
 -- By hand: the words are the mended file's bytes, and its samples are the file's.
-use Rattle.std.proofs.Common.{◌≡◌, refl, ap, sym, ◌∙◌, ◌+◌, ◌*◌, ◌≤◌, List, [], ◌∷◌, ◌++◌, ℕ, length, take, drop, arith}
+use Rattle.std.proofs.Common.{◌≡◌, refl, ap, ◌∙◌, ◌+◌, ◌*◌, ◌≤◌, List, [], ◌∷◌, ◌++◌, ℕ, length, take, drop, arith}
 use Rattle.lists.specs.Table.{table, over}
 use Rattle.clip.specs.Layout.{bytes, words, onset_bytes, offset}
 use Rattle.clip.specs.Reading.{channels_field, frames_from}
