@@ -16,6 +16,7 @@ use Rattle.player.specs.Record.{shape_of, fresh_with}
 use Rattle.player.specs.declared.Player.{Player}
 use Rattle.player.specs.declared.PlayerOptions.{PlayerOptions}
 use Rattle.player.specs.declared.ControlMessage.TheVariants.{Start, Stop, Loop, LoopStart, LoopEnd}
+use Rattle.ramps.specs.Ramps as ramps
 use Rattle.tape.specs.Tape as tape
 use Rattle.tape.specs.Tape.{Tape, Step, stepped, stepped_all, stays_off}
 use Rattle.claims.specs.Calls.{Call, buffer, message, block, all_typed, Event, accepted, after_all, time_of, is_block_call, opening, playing, Clip, Started, clip_in, start_in, stop_in, switch_in, point_in, gathered}
@@ -154,7 +155,7 @@ first_block x (e ∷ es) h = go (is_block_call e.call) refl h (first_block x es)
     go false i k rest = rest k
 
 -- put to use
-module _ (rate : Float) (options : PlayerOptions) (f : T (fits binary32 rate)) (t : T (valid_rate rate)) (calls : List Call) (ty : T (all_typed calls)) (h : Begins rate (accepted (fresh_with rate options) calls)) where
+module _ (rate : Float) (options : PlayerOptions) (quiet : options.ramp ≡ 0) (f : T (fits binary32 rate)) (t : T (valid_rate rate)) (calls : List Call) (ty : T (all_typed calls)) (h : Begins rate (accepted (fresh_with rate options) calls)) where
   abbrev es : List Event
   es = accepted (fresh_with rate options) calls
 
@@ -178,6 +179,7 @@ module _ (rate : Float) (options : PlayerOptions) (f : T (fits binary32 rate)) (
     ended = false;
     has_block = false;
     time = float_zero;
+    ramp = ramps.fresh 0;
   }
 
   starts_are : start_part got ≡ h.start
@@ -218,7 +220,7 @@ module _ (rate : Float) (options : PlayerOptions) (f : T (fits binary32 rate)) (
   sound = subst (λ (s : Shape). Sound s.channels s.frames s.rate) shape_is (all_open.1 has_is)
 
   opened_is : opened rate options got ≡ standing setup first
-  opened_is = simp (start_is, stop_is, offset_is, length_is, has_is, shape_is)
+  opened_is = simp (start_is, stop_is, offset_is, length_is, has_is, shape_is, quiet)
 
   pub first_is : after_all (fresh_with rate options) (opening es) ≡ standing setup first
   first_is = all_open.0 ∙ opened_is

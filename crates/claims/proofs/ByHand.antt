@@ -16,10 +16,12 @@ use Rattle.seconds.specs.Seconds.{float_zero, one, dt, block_seconds, block_end}
 use Rattle.detune.specs.Table.{entries}
 use Rattle.detune.specs.Detune.{octaves, above, factor_of}
 use Rattle.player.specs.Record.{fresh_with}
+use Rattle.tolerances.specs.declared.Tolerances.{Tolerances}
 use Rattle.player.specs.declared.PlayerOptions.{PlayerOptions}
-use Rattle.player.specs.Messages.{clamped_start, clamped_end, clamped, bad_time, on_start, on_stop, on_loop, handled, buffered}
+use Rattle.ramps.specs.Ramps.{numerator, ramped, counted, stop_number, stopping}
+use Rattle.player.specs.Messages.{clamped_start, clamped_end, clamped, bad_time, on_start, ramp_at_stop, on_stop, on_loop, handled, buffered}
 use Rattle.aligned.specs.Aligned.{first_frame, ends_within, aligned_sample, played, next_frame, last_wrap, aligned_position}
-use Rattle.player.specs.Block.{idle, start_at, is_aligned, has_ended, turns_over, aligned_plan, plan, bad_block_time, bad_rate, bad_samples, checked, rendered, written, output}
+use Rattle.player.specs.Block.{idle, start_at, is_aligned, has_ended, turns_over, aligned_plan, bare_plan, ramp_in, ramped_plan, bad_block_time, bad_rate, bad_samples, checked, rendered, written, output}
 use Rattle.reshape.specs.Known.{single, mono}
 use Rattle.reshape.specs.Converting.{playhead}
 use Rattle.claims.specs.GivenNumbers as given
@@ -28,23 +30,23 @@ use Rattle.claims.specs.LongRun.{frame_bits, exact_frames, Stands}
 use Rattle.claims.specs.LoopSwitch.{SwitchPremises}
 use Rattle.claims.specs.Longer.{as_call}
 use Rattle.claims.specs.Conversions.{SameInstant}
-use Rattle.claims.specs.Instances.{rate, frames, tick, looped_calls, plain_calls, stopped_calls, cents_at, all_heard, said}
+use Rattle.claims.specs.Instances.{rate, frames, tick, looped_calls, plain_calls, stopped_calls, cents_at, all_heard, said, unramped}
 use Rattle.claims.specs.ByHand.{ByHand, after_calls, one_looped, five_plain, two, five_quarters, half}
 
 -- ---- the bits of two blocks
-looped_bits : (options : PlayerOptions) → all_heard (playing (accepted (fresh_with rate options) looped_calls)) ≡ said true 0 ∷ said true 1 ∷ []
-unfolding accepted accepts next opening playing handled buffered on_start on_stop on_loop bad_time clamped clamped_start clamped_end fresh_with valid_rate valid_shape duration
-    rendered checked bad_block_time bad_rate bad_samples plan is_aligned start_at aligned_plan has_ended turns_over output written put table
+looped_bits : (t : Tolerances) → all_heard (playing (accepted (fresh_with rate (unramped t)) looped_calls)) ≡ said true 0 ∷ said true 1 ∷ []
+unfolding ramp_in ramp_at_stop numerator ramped counted stop_number stopping accepted accepts next opening playing handled buffered on_start on_stop on_loop bad_time clamped clamped_start clamped_end fresh_with valid_rate valid_shape duration
+    rendered checked bad_block_time bad_rate bad_samples bare_plan ramped_plan is_aligned start_at aligned_plan has_ended turns_over output written put table
     first_frame ends_within aligned_sample played next_frame last_wrap aligned_position dt block_seconds block_end idle frame_bits exact_frames
     round_away of_bits of_int round sum add mul div rem lt le eq ne neg sub to_unsigned
-looped_bits options = refl
+looped_bits t = refl
 
-plain_bits : (options : PlayerOptions) → all_heard (playing (accepted (fresh_with rate options) plain_calls)) ≡ said false 0 ∷ said false 1 ∷ []
-unfolding accepted accepts next opening playing handled buffered on_start on_stop on_loop bad_time clamped clamped_start clamped_end fresh_with valid_rate valid_shape duration
-    rendered checked bad_block_time bad_rate bad_samples plan is_aligned start_at aligned_plan has_ended turns_over output written put table
+plain_bits : (t : Tolerances) → all_heard (playing (accepted (fresh_with rate (unramped t)) plain_calls)) ≡ said false 0 ∷ said false 1 ∷ []
+unfolding ramp_in ramp_at_stop numerator ramped counted stop_number stopping accepted accepts next opening playing handled buffered on_start on_stop on_loop bad_time clamped clamped_start clamped_end fresh_with valid_rate valid_shape duration
+    rendered checked bad_block_time bad_rate bad_samples bare_plan ramped_plan is_aligned start_at aligned_plan has_ended turns_over output written put table
     first_frame ends_within aligned_sample played next_frame last_wrap aligned_position dt block_seconds block_end idle frame_bits exact_frames
     round_away of_bits of_int round sum add mul div rem lt le eq ne neg sub to_unsigned
-plain_bits options = refl
+plain_bits t = refl
 
 -- ---- where the player stands
 over : {m n : ℕ} → T (ltb n m) → m ≤ n → ⊥
@@ -52,7 +54,7 @@ over {m} {n} t h = let less : n < m = ltb→lt n m t in omega arith
 
 looped_stands : (options : PlayerOptions) → Stands rate true 128 1 (after_calls options one_looped)
 unfolding accepted accepts next opening playing handled buffered on_start on_stop on_loop bad_time clamped clamped_start clamped_end fresh_with valid_rate valid_shape duration
-    rendered checked bad_block_time bad_rate bad_samples plan is_aligned start_at aligned_plan has_ended turns_over output written put table
+    rendered checked bad_block_time bad_rate bad_samples bare_plan ramped_plan is_aligned start_at aligned_plan has_ended turns_over output written put table
     first_frame ends_within aligned_sample played next_frame last_wrap aligned_position dt block_seconds block_end idle frame_bits exact_frames
     round_away of_bits of_int round sum add mul div rem lt le eq ne neg sub to_unsigned
 looped_stands options = record {
@@ -71,7 +73,7 @@ looped_stands options = record {
 
 plain_stands : (options : PlayerOptions) → Stands rate false 640 5 (after_calls options five_plain)
 unfolding accepted accepts next opening playing handled buffered on_start on_stop on_loop bad_time clamped clamped_start clamped_end fresh_with valid_rate valid_shape duration
-    rendered checked bad_block_time bad_rate bad_samples plan is_aligned start_at aligned_plan has_ended turns_over output written put table
+    rendered checked bad_block_time bad_rate bad_samples bare_plan ramped_plan is_aligned start_at aligned_plan has_ended turns_over output written put table
     first_frame ends_within aligned_sample played next_frame last_wrap aligned_position dt block_seconds block_end idle frame_bits exact_frames
     round_away of_bits of_int round sum add mul div rem lt le eq ne neg sub to_unsigned
 plain_stands options = record {
@@ -90,7 +92,7 @@ plain_stands options = record {
 
 plain_goes_on : (options : PlayerOptions) → is_ended (after_calls options five_plain) ≡ false
 unfolding accepted accepts next opening playing handled buffered on_start on_stop on_loop bad_time clamped clamped_start clamped_end fresh_with valid_rate valid_shape duration
-    rendered checked bad_block_time bad_rate bad_samples plan is_aligned start_at aligned_plan has_ended turns_over output written put table
+    rendered checked bad_block_time bad_rate bad_samples bare_plan ramped_plan is_aligned start_at aligned_plan has_ended turns_over output written put table
     first_frame ends_within aligned_sample played next_frame last_wrap aligned_position dt block_seconds block_end idle frame_bits exact_frames
     round_away of_bits of_int round sum add mul div rem lt le eq ne neg sub to_unsigned
 plain_goes_on options = refl
@@ -98,7 +100,7 @@ plain_goes_on options = refl
 -- ---- the loop switch
 no_stop : (options : PlayerOptions) → SwitchPremises rate (accepted (fresh_with rate options) stopped_calls) → ⊥
 unfolding accepted accepts next opening playing handled buffered on_start on_stop on_loop bad_time clamped clamped_start clamped_end fresh_with valid_rate valid_shape duration
-    rendered checked bad_block_time bad_rate bad_samples plan is_aligned start_at aligned_plan has_ended turns_over output written put table
+    rendered checked bad_block_time bad_rate bad_samples bare_plan ramped_plan is_aligned start_at aligned_plan has_ended turns_over output written put table
     first_frame ends_within aligned_sample played next_frame last_wrap aligned_position dt block_seconds block_end idle frame_bits exact_frames
     round_away of_bits of_int round sum add mul div rem lt le eq ne neg sub to_unsigned
 no_stop options h = cons≢nil h.no_stop

@@ -3,12 +3,13 @@
 use mathlib.Core.Path.{◌≡◌, refl, ap, ap₂, fun_ext, ◌∙◌}
 use mathlib.Core.Bool.{Bool, true, false, not, ◌&&◌, cond}
 use mathlib.Core.List.{List}
-use Prim.Native.Nat.{ℕ, zero, suc}
+use Prim.Native.Nat.{ℕ, zero, suc, ◌+◌}
 use lib.ListN.{length}
 use lib.Ieee.{Float, le, ne}
 use Rattle.std.specs.Prelude.{Option, None, Some, Result, Ok, Err}
 use Rattle.seconds.specs.Seconds.{never, block_end}
 use Rattle.buffer.specs.Answers.{answer_of, stored, after_checks}
+use Rattle.buffer.specs.Limits.{valid_rate}
 use Rattle.tolerances.specs.declared.Tolerances.{Tolerances}
 use Rattle.tolerances.specs.Tolerances.{defaults}
 use Rattle.sub_sample.specs.SubSample as sub_sample
@@ -19,7 +20,7 @@ use Rattle.interpolated.specs.Interpolated as interpolated
 use Rattle.reshape.specs.Converting as converting
 use Rattle.player.specs.Record.{default_options, fresh, fresh_with, render_of, moved}
 use Rattle.player.specs.Block as block
-use Rattle.player.specs.Block.{Plan, settings, first_head, has_ended, silent, idle, computed_rate, start_at, is_aligned, turns_over, aligned_plan, own_loop, bad_block_time, bad_samples, checked, report_of, written}
+use Rattle.player.specs.Block.{Plan, settings, first_head, has_ended, silent, idle, computed_rate, start_at, is_aligned, turns_over, aligned_plan, own_loop, ramp_in, ramped_plan, bad_block_time, bad_samples, checked, report_of, written}
 use Rattle.player.specs.declared.Player.{Player}
 use Rattle.player.specs.Messages.{made, made_with}
 use Rattle.buffer.specs.declared.refusals.Refusal.{Refusal}
@@ -31,13 +32,14 @@ use Rattle.claims.proofs.Whole.{long_run_lem}
 use Rattle.claims.proofs.Switched.{switched_lem}
 
 -- ---- a sub-sample block by where its playhead comes to, and by its samples
-abbrev planned_by : ℕ → Player → Float → Float → Playhead → (List ℕ → ℕ → ℕ) → Plan
-planned_by n p time computed l sample =
+abbrev planned_by : ℕ → Player → Float → Float → ℕ → Playhead → (List ℕ → ℕ → ℕ) → Plan
+planned_by n p time computed before l sample =
     let ended = has_ended n p time computed l.buffer_time.0 l.buffer_time_elapsed.0 in
     record {
       player = moved p l.start_time.0 l.offset.0 (render_of l.buffer_time.0 l.started l.entered_loop l.buffer_time_elapsed.0 false ended) time;
       keep_alive = true;
       channels = p.shape.channels;
+      uncounted = before;
       sample = sample;
     }
 
@@ -53,6 +55,11 @@ module _ (s : Settings) where
       given.head_at given.stepped given.snapped given.placed given.turned given.settled given.snapped_to_loop
   head_lem h zero = refl
   head_lem h (suc i) = let t = s.tolerances in ap (given.stepped t.near t.near_zero t.relabel s i) (head_lem h i)
+
+  before_lem : (h : Playhead) (i : ℕ) → let t = s.tolerances in sub_sample.before_start s h i ≡ given.before_start t.near t.near_zero t.relabel s h i
+  unfolding sub_sample.before_start given.before_start
+  before_lem h zero = refl
+  before_lem h (suc i) = ap₂ (λ (l : Playhead) (b : ℕ). cond l.started b (b + 1)) (head_lem h (suc i)) (before_lem h i)
 
   info_lem : (i : ℕ) (h : Playhead) → let t = s.tolerances in sub_sample.info_of_sample s i h ≡ given.info_of_sample t.near t.near_zero t.relabel s i h
   unfolding sub_sample.info_of_sample sub_sample.snapped sub_sample.placed sub_sample.turned sub_sample.settled sub_sample.snapped_to_loop
@@ -82,24 +89,26 @@ module _ (n : ℕ) (p : Player) (time : Float) where
       → let t = p.tolerances in block.sub_sample_plan n p time rate computed ≡ given.sub_sample_plan t.near t.near_zero t.relabel n p time rate computed
   unfolding block.sub_sample_plan given.sub_sample_plan settings
   sub_sample_lem rate computed =
+      let t = p.tolerances in
       let s = settings p time rate computed in
       let h = first_head p time in
-      ap₂ (planned_by n p time computed) (head_lem s h n) (samples_lem s h)
+      ap₂ (planned_by n p time computed (sub_sample.before_start s h n)) (head_lem s h n) (samples_lem s h)
+      ∙ ap (λ (b : ℕ). planned_by n p time computed b (given.head_at t.near t.near_zero t.relabel s h n) (numbered t.near t.near_zero t.relabel s h)) (before_lem s h n)
 
   -- a plan by that of its sub-sample block
   abbrev in_order : Float → Plan → Plan
   in_order computed q =
       let end = block_end n time p.sample_rate in
-      cond p.render_state.ended (silent (idle p time true) false)
-      (cond (not p.has_buffer && ne p.start_time.0 never) (silent (idle p time true) false)
+      cond p.render_state.ended (silent n (idle p time true) false)
+      (cond (not p.has_buffer && ne p.start_time.0 never) (silent n (idle p time true) false)
       (cond (le end p.start_time.0)
-      (cond (le p.stop_time.0 end) (silent (idle p time true) false) (silent (idle p time false) (ne p.start_time.0 never)))
-      (cond (not p.has_buffer) (silent (idle p time false) false)
+      (cond (le p.stop_time.0 end) (silent n (idle p time true) false) (silent n (idle p time false) (ne p.start_time.0 never)))
+      (cond (not p.has_buffer) (silent n (idle p time false) false)
       (cond (is_aligned n p time computed) (aligned_plan n p time computed) q))))
 
   plan_lem : (rate factor : Float) → let t = p.tolerances in block.plan n p time rate factor ≡ given.plan t.near t.near_zero t.relabel n p time rate factor
-  unfolding block.plan given.plan
-  plan_lem rate factor = ap (in_order (computed_rate rate factor)) (sub_sample_lem rate (computed_rate rate factor))
+  unfolding block.bare_plan given.bare_plan
+  plan_lem rate factor = ap (λ (q : Plan). ramped_plan n p (in_order (computed_rate rate factor) q)) (sub_sample_lem rate (computed_rate rate factor))
 
 rendered_lem : (n : ℕ) (p : Player) (outLength samplesLength : ℕ) (time rate factor : Float) → let t = p.tolerances in
     block.rendered n p outLength samplesLength time rate factor ≡ given.rendered t.near t.near_zero t.relabel n p outLength samplesLength time rate factor
@@ -173,6 +182,11 @@ module _ (close small apart : Float) (t : Tolerances) where
     head_other h zero = refl
     head_other h (suc i) = ap (given.stepped close small apart s i) (head_other h i)
 
+    before_other : (h : Playhead) (i : ℕ) → given.before_start close small apart (other s t) h i ≡ given.before_start close small apart s h i
+    unfolding given.before_start
+    before_other h zero = refl
+    before_other h (suc i) = ap₂ (λ (l : Playhead) (b : ℕ). cond l.started b (b + 1)) (head_other h (suc i)) (before_other h i)
+
     info_other : (i : ℕ) (h : Playhead) → given.info_of_sample close small apart (other s t) i h ≡ given.info_of_sample close small apart s i h
     unfolding given.info_of_sample given.snapped given.placed given.turned given.settled given.snapped_to_loop
         sub_sample.is_idle sub_sample.begun sub_sample.start_offset sub_sample.enters sub_sample.wrapped sub_sample.info_at sub_sample.playhead
@@ -192,7 +206,7 @@ module _ (close small apart : Float) (t : Tolerances) where
         (info_other i (given.head_at close small apart (other s t) h i) ∙ ap (given.info_of_sample close small apart s i) (head_other h i))))
 
   module _ (n : ℕ) (p : Player) (time : Float) where
-    silent_other : (ended keep : Bool) → silent (idle (holding p t) time ended) keep ≡ planned (silent (idle p time ended) keep) t
+    silent_other : (ended keep : Bool) → silent n (idle (holding p t) time ended) keep ≡ planned (silent n (idle p time ended) keep) t
     unfolding idle
     silent_other ended keep = refl
 
@@ -206,12 +220,14 @@ module _ (close small apart : Float) (t : Tolerances) where
     sub_sample_other rate computed =
         let s = settings p time rate computed in
         let h = first_head p time in
-        ap₂ (λ (l : Playhead) (sample : List ℕ → ℕ → ℕ). planned (planned_by n p time computed l sample) t) (head_other s h n) (samples_other s h)
+        let before = given.before_start close small apart (other s t) h n in
+        ap₂ (λ (l : Playhead) (sample : List ℕ → ℕ → ℕ). planned (planned_by n p time computed before l sample) t) (head_other s h n) (samples_other s h)
+        ∙ ap (λ (b : ℕ). planned (planned_by n p time computed b (given.head_at close small apart s h n) (numbered close small apart s h)) t) (before_other s h n)
 
-    plan_other : (rate factor : Float)
-        → given.plan close small apart n (holding p t) time rate factor ≡ planned (given.plan close small apart n p time rate factor) t
-    unfolding given.plan is_aligned start_at
-    plan_other rate factor =
+    bare_other : (rate factor : Float)
+        → given.bare_plan close small apart n (holding p t) time rate factor ≡ planned (given.bare_plan close small apart n p time rate factor) t
+    unfolding given.bare_plan is_aligned start_at
+    bare_other rate factor =
         let end = block_end n time p.sample_rate in
         let computed = computed_rate rate factor in
         chosen t p.render_state.ended _ _ _ _ (silent_other true false)
@@ -220,6 +236,15 @@ module _ (close small apart : Float) (t : Tolerances) where
         (chosen t (le p.stop_time.0 end) _ _ _ _ (silent_other true false) (silent_other false (ne p.start_time.0 never)))
         (chosen t (not p.has_buffer) _ _ _ _ (silent_other false false)
         (chosen t (is_aligned n p time computed) _ _ _ _ (aligned_other computed) (sub_sample_other rate computed)))))
+
+    -- the ramp reads none either
+    ramped_other : (q : Plan) → ramped_plan n (holding p t) (planned q t) ≡ planned (ramped_plan n p q) t
+    unfolding ramped_plan ramp_in
+    ramped_other q = refl
+
+    plan_other : (rate factor : Float)
+        → given.plan close small apart n (holding p t) time rate factor ≡ planned (given.plan close small apart n p time rate factor) t
+    plan_other rate factor = ap (ramped_plan n (holding p t)) (bare_other rate factor) ∙ ramped_other (given.bare_plan close small apart n p time rate factor)
 
     answered_other : (checks : Result Unit Refusal) (q r : Plan) → r ≡ planned q t
         → after_checks checks (report_of r) ≡ answered (after_checks checks (report_of q)) t
@@ -256,10 +281,18 @@ fresh_has rate = refl
 left_has : (rate : Float) (calls : List LongerCall) → (left (fresh rate) calls).tolerances ≡ defaults
 left_has rate calls = keeps_tolerances.kept (fresh rate) calls ∙ fresh_has rate
 
+either_way : {A : Type 0} (b : Bool) (x y : A) → cond b x y ≡ cond (not b) y x
+either_way true x y = refl
+either_way false x y = refl
+
+made_lem : (rate : Float) → made rate ≡ made_with rate default_options
+unfolding made made_with fresh
+made_lem rate = either_way (valid_rate rate) _ _
+
 pub at_defaults : AtDefaults
 unfolding made made_with fresh converting.converted_shape converting.converted_samples
 at_defaults = record {
-  made = λ rate. refl;
+  made = made_lem;
   has = left_has;
   kept = λ rate calls time playback computed. receives.settings (left (fresh rate) calls) time playback computed ∙ left_has rate calls;
   snapped = λ s now h e.
@@ -280,6 +313,6 @@ at_defaults = record {
       ∙ ap (λ (t : Tolerances). given.output t.near t.near_zero t.relabel n p out samples time rate factor) e;
   converted_shape = receives.converted_shape defaults;
   converted_samples = receives.converted_samples defaults;
-  long_run = λ rate. long_run_lem rate default_options;
-  loop_switch = λ rate. switched_lem rate default_options;
+  long_run = λ rate. long_run_lem rate default_options refl;
+  loop_switch = λ rate. switched_lem rate default_options refl;
 }

@@ -13,20 +13,22 @@ use Rattle.rounding.specs.Near.{larger, near, near_zero}
 use Rattle.fused.specs.Fused.{plus, fma}
 use Rattle.buffer.specs.Limits.{valid_rate, valid_shape, duration}
 use Rattle.seconds.specs.Seconds.{float_zero, never, dt, block_seconds, instant, block_end}
+use Rattle.tolerances.specs.declared.Tolerances.{Tolerances}
 use Rattle.player.specs.declared.PlayerOptions.{PlayerOptions}
+use Rattle.ramps.specs.Ramps.{numerator, ramped, counted, stop_number, stopping}
 use Rattle.player.specs.Record.{fresh_with, default_options}
-use Rattle.player.specs.Messages.{clamped_start, clamped_end, clamped, bad_time, on_start, on_stop, on_loop, handled, buffered}
+use Rattle.player.specs.Messages.{clamped_start, clamped_end, clamped, bad_time, on_start, ramp_at_stop, on_stop, on_loop, handled, buffered}
 use Rattle.aligned.specs.Aligned.{first_frame, ends_within, aligned_sample, played, next_frame, last_wrap, aligned_position}
-use Rattle.sub_sample.specs.SubSample.{snapped, is_idle, start_offset, begun, snapped_to_loop, enters, wrapped, turned, settled, playhead, info_at, advanced, placed, stepped, info_of_sample, head_at}
+use Rattle.sub_sample.specs.SubSample.{snapped, is_idle, start_offset, begun, snapped_to_loop, enters, wrapped, turned, settled, playhead, info_at, advanced, placed, stepped, info_of_sample, head_at, before_start}
 use Rattle.interpolated.specs.Interpolated.{loop_frame, extrapolated, following, between, sample_of}
-use Rattle.player.specs.Block.{idle, start_at, is_aligned, has_ended, turns_over, aligned_plan, sub_sample_plan, settings, first_head, plan, own_loop, bad_block_time, bad_rate, bad_samples, checked, rendered, written, output}
+use Rattle.player.specs.Block.{idle, start_at, is_aligned, has_ended, turns_over, aligned_plan, sub_sample_plan, settings, first_head, bare_plan, ramp_in, ramped_plan, own_loop, bad_block_time, bad_rate, bad_samples, checked, rendered, written, output}
 use Rattle.claims.specs.Calls.{Call, all_typed, accepts, next, accepted, opening, playing, Clip, Started, clip_in, start_in, stop_in, switch_in, point_in, gathered}
 use Rattle.claims.specs.LongRun.{starts_in_time, OnlyBlocks, frame_bits}
 use Rattle.detune.specs.Table.{entries}
 use Rattle.detune.specs.Detune.{octaves, above, bad_cents, factor_of}
 use Rattle.cents.specs.Cents.{checked_cents, rendered_cents}
 use Rattle.claims.specs.Longer.{replaced, unlooked}
-use Rattle.claims.specs.Instances.{rate, frames, looped_calls, plain_calls, stopped_calls, stop_calls, first_end, within, all_heard, said, longer_calls, previewed_calls, Met, MetAtStop, MetWithin, Instances}
+use Rattle.claims.specs.Instances.{rate, frames, looped_calls, plain_calls, stopped_calls, stop_calls, first_end, within, all_heard, said, unramped, longer_calls, previewed_calls, Met, MetAtStop, MetWithin, Instances}
 
 abbrev ownClip : Clip
 ownClip = record { channels = 1; frames = 3; rate = rate; samples = frames }
@@ -60,13 +62,13 @@ met options calls blocks typed clips starts time switches stops points plain pla
   played = played;
 }
 
-at_stop : (options : PlayerOptions) → MetAtStop options
-unfolding accepted accepts next opening playing handled buffered on_start on_stop on_loop bad_time clamped clamped_start clamped_end fresh_with valid_rate valid_shape duration
-    rendered checked bad_block_time bad_rate bad_samples plan is_aligned start_at aligned_plan sub_sample_plan settings first_head head_at has_ended turns_over output written put table
+at_stop : (t : Tolerances) → MetAtStop (unramped t)
+unfolding ramp_in ramp_at_stop numerator ramped counted stop_number stopping accepted accepts next opening playing handled buffered on_start on_stop on_loop bad_time clamped clamped_start clamped_end fresh_with valid_rate valid_shape duration
+    rendered checked bad_block_time bad_rate bad_samples bare_plan ramped_plan is_aligned start_at aligned_plan sub_sample_plan settings first_head head_at has_ended turns_over output written put table
     first_frame ends_within aligned_sample played next_frame last_wrap aligned_position dt block_seconds block_end instant idle frame_bits
     round_away of_bits of_int round sum add mul div rem lt le eq ne neg sub to_unsigned fits
-at_stop options = record {
-  met = met options (stop_calls first_end) 2 tt refl refl tt (lit≤ tt) (lit≤ tt) refl ((refl, refl, refl), ((refl, refl, refl), tt)) refl;
+at_stop t = record {
+  met = met (unramped t) (stop_calls first_end) 2 tt refl refl tt (lit≤ tt) (lit≤ tt) refl ((refl, refl, refl), ((refl, refl, refl), tt)) refl;
   at = refl;
   plays = refl;
   ended = refl;
@@ -74,7 +76,7 @@ at_stop options = record {
 
 within_stop : (options : PlayerOptions) → MetWithin options
 unfolding accepted accepts next opening playing handled buffered on_start on_stop on_loop bad_time clamped clamped_start clamped_end fresh_with valid_rate valid_shape duration
-    rendered checked bad_block_time bad_rate bad_samples plan is_aligned start_at aligned_plan sub_sample_plan settings first_head head_at has_ended turns_over output written put table
+    rendered checked bad_block_time bad_rate bad_samples bare_plan ramped_plan is_aligned start_at aligned_plan sub_sample_plan settings first_head head_at has_ended turns_over output written put table
     first_frame ends_within aligned_sample played next_frame last_wrap aligned_position dt block_seconds block_end instant idle frame_bits
     round_away of_bits of_int round sum add mul div rem lt le eq ne neg sub to_unsigned fits
 within_stop options = record {
@@ -86,17 +88,17 @@ within_stop options = record {
 }
 
 zero_from_stop : all_heard (playing (accepted (fresh_with rate default_options) (stop_calls within))) ≡ (take 94 (said true 0) ++ replicate 34 0) ∷ replicate 128 0 ∷ []
-unfolding accepted accepts next opening playing handled buffered on_start on_stop on_loop bad_time clamped clamped_start clamped_end fresh_with valid_rate valid_shape duration
-    rendered checked bad_block_time bad_rate bad_samples plan is_aligned start_at aligned_plan sub_sample_plan settings own_loop first_head has_ended turns_over output written put table
+unfolding ramp_in ramp_at_stop numerator ramped counted stop_number stopping accepted accepts next opening playing handled buffered on_start on_stop on_loop bad_time clamped clamped_start clamped_end fresh_with valid_rate valid_shape duration
+    rendered checked bad_block_time bad_rate bad_samples bare_plan ramped_plan is_aligned start_at aligned_plan sub_sample_plan settings own_loop first_head has_ended turns_over output written put table
     first_frame ends_within aligned_sample played next_frame last_wrap aligned_position dt block_seconds block_end instant idle frame_bits
-    head_at stepped info_of_sample snapped is_idle start_offset begun snapped_to_loop enters wrapped turned settled playhead info_at advanced placed
+    head_at before_start stepped info_of_sample snapped is_idle start_offset begun snapped_to_loop enters wrapped turned settled playhead info_at advanced placed
     loop_frame extrapolated following between sample_of larger near near_zero magnitude floor rem_euclid widen narrow convert fma plus
     round_away of_bits of_int round sum add mul div rem lt le eq ne neg sub to_unsigned to_bits fits
 zero_from_stop = refl
 
 pub instances : Instances
 unfolding replaced unlooked checked_cents rendered_cents bad_cents factor_of octaves above entries accepted accepts next opening playing handled buffered on_start on_stop
-    on_loop bad_time clamped clamped_start clamped_end fresh_with valid_rate valid_shape duration rendered checked bad_block_time bad_rate bad_samples plan is_aligned start_at
+    on_loop bad_time clamped clamped_start clamped_end fresh_with valid_rate valid_shape duration rendered checked bad_block_time bad_rate bad_samples bare_plan ramped_plan is_aligned start_at
     aligned_plan sub_sample_plan settings first_head head_at has_ended turns_over first_frame ends_within played next_frame last_wrap aligned_position dt block_seconds
     block_end idle round_away of_bits of_int round sum add mul div rem lt le eq ne neg sub to_unsigned fits
 instances = record {

@@ -14,6 +14,7 @@ pub mod Step
 pub mod Unswitched
 pub mod Written
 pub mod Chain
+pub mod Ramps
 pub mod Opening
 pub mod States
 pub mod Events
@@ -29,4 +30,6 @@ pub mod Known
 pub mod Conversions
 pub mod Multiples
 pub mod Tolerances
+pub mod AnyRamp
+pub mod RampInstances
 pub mod GivenNumbers

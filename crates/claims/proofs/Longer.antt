@@ -112,6 +112,6 @@ blocks_in_cents exact = record {
   unmoved = unmoved;
   at_zero = λ p out samples time rate.
       as_block p out samples time rate (pos 0) in_range ∙ ap (λ (factor : Float). outcome p (block out samples time rate factor)) exact.none;
-  long_run = λ rate options single valid calls typed. long_run_lem rate options single valid _ (all_typed_lem exact.held _ calls typed);
-  loop_switch = λ rate options single valid calls typed. switched_lem rate options single valid _ (all_typed_lem exact.held _ calls typed);
+  long_run = λ rate options quiet single valid calls typed. long_run_lem rate options quiet single valid _ (all_typed_lem exact.held _ calls typed);
+  loop_switch = λ rate options quiet single valid calls typed. switched_lem rate options quiet single valid _ (all_typed_lem exact.held _ calls typed);
 }

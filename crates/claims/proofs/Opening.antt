@@ -11,7 +11,8 @@ use lib.Ieee.{Float, binary32, of_bits, fits, lt, le, eq}
 use Rattle.buffer.specs.Limits.{valid_rate, valid_shape, duration, Valid, valid}
 use Rattle.seconds.specs.Seconds.{context, in_clip, float_zero, never}
 use Rattle.player.specs.Record.{shape_of, loop_of, render_of, fresh_with, given}
-use Rattle.player.specs.Messages.{clamped_start, clamped_end, clamped, bad_time, on_start, on_stop, on_loop, handled, buffered}
+use Rattle.player.specs.Messages.{clamped_start, clamped_end, clamped, bad_time, on_start, ramp_at_stop, on_stop, on_loop, handled, buffered}
+use Rattle.ramps.specs.Ramps as ramps
 use Rattle.buffer.specs.declared.Shape.{Shape}
 use Rattle.player.specs.declared.Player.{Player}
 use Rattle.player.specs.declared.PlayerOptions.{PlayerOptions}
@@ -54,6 +55,7 @@ pointed rate options a has from to = record {
   has_block = false;
   block_time = context float_zero;
   tolerances = options.tolerances;
+  ramp = ramps.fresh options.ramp;
 }
 
 abbrev pub opened : Float → PlayerOptions → Received → Player
@@ -183,7 +185,7 @@ module _ (seconds : SomeSeconds) (rate : Float) (options : PlayerOptions) where
 
   open_message : (a : Received) (m : ControlMessage) → SoundIf a → is_done (handled (opened rate options a) m) ≡ true → point_in (message m) ≡ []
       → (left (handled (opened rate options a) m) (opened rate options a) ≡ opened rate options (receive a (message m))) × SoundIf (receive a (message m))
-  unfolding handled on_start on_stop on_loop
+  unfolding handled on_start on_stop on_loop ramp_at_stop
   open_message a (Start when offset length) s h n =
       let b = receive a (message (Start when offset length)) in
       (two_tests (bad_time when || bad_time offset || bad_time length) a.has_start refused.Value refused.Second (opened rate options a) _ h ∙ clamp_keeps rate options b (stands b s), s)

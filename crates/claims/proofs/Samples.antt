@@ -13,7 +13,7 @@ use Rattle.buffer.specs.Limits.{Valid, valid}
 use Rattle.buffer.specs.Answers.{answer_of, stored, after_checks}
 use Rattle.buffer.specs.declared.refusals.Refusal.{Refusal}
 use Rattle.buffer.proofs.Checks.{all_passed}
-use Rattle.player.specs.Block.{Plan, silent, idle, computed_rate, is_aligned, aligned_plan, sub_sample_plan, plan, bad_block_time, bad_rate, bad_samples, checks, report_of, written}
+use Rattle.player.specs.Block.{Plan, silent, idle, computed_rate, is_aligned, aligned_plan, sub_sample_plan, bare_plan, ramped_plan, plan, bad_block_time, bad_rate, bad_samples, checks, report_of, written}
 use Rattle.seconds.specs.Seconds.{never, block_end}
 use Rattle.player.specs.declared.Player.{Player}
 use Rattle.player.specs.declared.BlockReport.{BlockReport}
@@ -29,7 +29,7 @@ either : (b : Bool) (x y : Plan) → (b ≡ true → Few x) → (b ≡ false →
 either true x y h k = h refl
 either false x y h k = k refl
 
-silence : (p : Player) (time : Float) (ended keep : Bool) → Few (silent (idle p time ended) keep)
+silence : (p : Player) (time : Float) (ended keep : Bool) → Few (silent 128 (idle p time ended) keep)
 silence p time ended keep = record { few = omega arith }
 
 -- a channel is answered by an accepted block
@@ -41,34 +41,38 @@ taken (Err refused) r c h = absurd (none h)
     none h = omega arith
 
 module _ (p : Player) (samples : List ℕ) (time rate factor : Float) (bad : Bool) where
-  abbrev q : Plan
+  abbrev pub q : Plan
   q = plan 128 p time rate factor
 
   own : bad_samples p (length samples) ≡ false → not p.has_buffer ≡ false → Valid p.shape.channels p.shape.frames (length samples)
   unfolding bad_samples
   own h b = valid _ _ _ (not-false _ (rw (not-false p.has_buffer b) at h))
 
-  planned : bad_samples p (length samples) ≡ false → Few q
-  unfolding plan aligned_plan sub_sample_plan
-  planned good =
+  bare : bad_samples p (length samples) ≡ false → Few (bare_plan 128 p time rate factor)
+  unfolding bare_plan aligned_plan sub_sample_plan
+  bare good =
       let end = block_end 128 time p.sample_rate in
       let computed = computed_rate rate factor in
-      either p.render_state.ended (silent (idle p time true) false) _ (λ _. silence p time true false)
-      (λ _. either (not p.has_buffer && ne p.start_time.0 never) (silent (idle p time true) false) _ (λ _. silence p time true false)
-      (λ _. either (le end p.start_time.0) (cond (le p.stop_time.0 end) (silent (idle p time true) false) (silent (idle p time false) (ne p.start_time.0 never))) _
-      (λ _. either (le p.stop_time.0 end) (silent (idle p time true) false) (silent (idle p time false) (ne p.start_time.0 never)) (λ _. silence p time true false) (λ _. silence p time false _))
-      (λ _. either (not p.has_buffer) (silent (idle p time false) false) _ (λ _. silence p time false false)
+      either p.render_state.ended (silent 128 (idle p time true) false) _ (λ _. silence p time true false)
+      (λ _. either (not p.has_buffer && ne p.start_time.0 never) (silent 128 (idle p time true) false) _ (λ _. silence p time true false)
+      (λ _. either (le end p.start_time.0) (cond (le p.stop_time.0 end) (silent 128 (idle p time true) false) (silent 128 (idle p time false) (ne p.start_time.0 never))) _
+      (λ _. either (le p.stop_time.0 end) (silent 128 (idle p time true) false) (silent 128 (idle p time false) (ne p.start_time.0 never)) (λ _. silence p time true false) (λ _. silence p time false _))
+      (λ _. either (not p.has_buffer) (silent 128 (idle p time false) false) _ (λ _. silence p time false false)
       (λ h. either (is_aligned 128 p time computed) (aligned_plan 128 p time computed) (sub_sample_plan 128 p time rate computed)
       (λ _. record { few = (own good h).few }) (λ _. record { few = (own good h).few })))))
 
-  abbrev checked : ℕ → Result Unit Refusal
+  planned : bad_samples p (length samples) ≡ false → Few q
+  unfolding ramped_plan
+  planned good = record { few = (bare good).few }
+
+  abbrev pub checked : ℕ → Result Unit Refusal
   checked outLength = checks 128 p outLength (length samples) time bad rate factor
 
   -- the output that a block leaves, refused or not
-  abbrev left : List ℕ → List ℕ
-  left out = stored (answer_of (checked (length out))) (written 128 q.sample p.shape.frames samples out q.channels) out
+  abbrev pub left_by : List ℕ → List ℕ
+  left_by out = stored (answer_of (checked (length out))) (written 128 q.sample p.shape.frames samples out q.channels) out
 
-  at : (out : List ℕ) → checked (length out) ≡ Ok tt → (c i : ℕ) → c < q.channels → i < 128 → get_or (left out) (128 * c + i) 0 ≡ q.sample (channel samples p.shape.frames c) i
+  pub at : (out : List ℕ) → checked (length out) ≡ Ok tt → (c i : ℕ) → c < q.channels → i < 128 → get_or (left_by out) (128 * c + i) 0 ≡ q.sample (channel samples p.shape.frames c) i
   at out pass c i below within =
       let all = all_passed (not (eqb (length out) 4096)) (bad_block_time p time) bad (bad_rate rate factor) (bad_samples p (length samples)) pass in
       let whole : length out ≡ 4096 = eqb-true (length out) 4096 (not-false (eqb (length out) 4096) all.length) in
@@ -76,7 +80,7 @@ module _ (p : Player) (samples : List ℕ) (time rate factor : Float) (bad : Boo
       ∙ written_at q.sample p.shape.frames samples out whole q.channels (planned all.samples).few c below i within
 
   pub alike : (second out : List ℕ) → length second ≡ length out → (c i : ℕ) → c < answered (after_checks (checked (length out)) (report_of q)) → i < 128
-      → get_or (left second) (128 * c + i) 0 ≡ get_or (left out) (128 * c + i) 0
+      → get_or (left_by second) (128 * c + i) 0 ≡ get_or (left_by out) (128 * c + i) 0
   alike second out same c i below within =
       let on = taken (checked (length out)) (report_of q) c below in
       at second (ap checked same ∙ on.0) c i on.1 within ∙ sym (at out on.0 c i on.1 within)

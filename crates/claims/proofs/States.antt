@@ -12,13 +12,16 @@ use lib.Ieee.{Float, binary64, add, mul, lt, le, eq}
 use lib.Ieee.Exact.{HasValue}
 use Rattle.buffer.specs.Limits.{duration}
 use Rattle.seconds.specs.Seconds.{context, in_clip, float_zero, never, one, block_seconds, block_end, instant}
-use Rattle.player.specs.Record.{shape_of, loop_of, render_of}
+use Rattle.player.specs.Record.{shape_of, loop_of, render_of, with_ramp}
+use Rattle.ramps.specs.declared.Ramp.{Ramp}
+use Rattle.ramps.specs.Ramps.{counted}
+use Rattle.claims.proofs.Ramps.{ramp_after, counting, after_length, unramped, hushed, hushed_is, stays}
 use Rattle.aligned.specs.Aligned.{first_frame, ends_within, aligned_sample, last_wrap, aligned_position}
 use Rattle.sub_sample.specs.SubSample.{head_at, is_idle, info_of_sample}
 use Rattle.interpolated.specs.Interpolated.{sample_of}
 use Rattle.sub_sample.specs.declared.Playhead.{Playhead}
 use Rattle.buffer.specs.Channels.{channel}
-use Rattle.player.specs.Block.{Plan, silent, idle, start_at, is_aligned, has_ended, turns_over, aligned_plan, settings, first_head, sub_sample_plan, plan}
+use Rattle.player.specs.Block.{Plan, silent, idle, start_at, is_aligned, has_ended, turns_over, aligned_plan, settings, first_head, sub_sample_plan, bare_plan, ramp_in, ramped_plan, plan}
 use Rattle.player.specs.declared.Player.{Player}
 use Rattle.tolerances.specs.declared.Tolerances.{Tolerances}
 use Rattle.tape.specs.Tape as tape
@@ -53,7 +56,7 @@ pub record Ground : Type 0 where
   pub few : setup.channels ≤ 32
   pub samples : List ℕ
 
--- what a block moves, and a loop message switches
+-- what a block moves, and a loop message switches; the ramp has length 0
 pub record State : Type 0 where
   pub looped : Bool
   pub has_start : Bool
@@ -67,6 +70,7 @@ pub record State : Type 0 where
   pub ended : Bool
   pub has_block : Bool
   pub time : Float
+  pub ramp : Ramp
 
 abbrev pub standing : Setup → State → Player
 standing s x = record {
@@ -83,6 +87,7 @@ standing s x = record {
   has_block = x.has_block;
   block_time = context x.time;
   tolerances = s.tolerances;
+  ramp = hushed x.ramp;
 }
 
 -- ---- an ended player
@@ -100,11 +105,22 @@ silenced x t = record {
   ended = true;
   has_block = true;
   time = t;
+  ramp = x.ramp;
 }
 
-pub plan_ended : (s : Setup) (x : State) (t : Float) → x.ended ≡ true → plan 128 (standing s x) t one one ≡ silent (standing s (silenced x t)) false
-unfolding plan idle
-plan_ended s x t h = simp h
+bare_ended : (s : Setup) (x : State) (t : Float) → x.ended ≡ true → bare_plan 128 (standing s x) t one one ≡ silent 128 (standing s (silenced x t)) false
+unfolding bare_plan idle
+bare_ended s x t h = simp h
+
+-- the plan of a player whose ramp has length 0, by the bare one
+quiet : (s : Setup) (x : State) (t : Float) (q : Plan) → bare_plan 128 (standing s x) t one one ≡ q → plan 128 (standing s x) t one one ≡ counting 128 (standing s x) q
+quiet s x t q e = ap (ramped_plan 128 (standing s x)) e ∙ unramped 128 (standing s x) q refl
+
+pub plan_ended : (s : Setup) (x : State) (t : Float) → x.ended ≡ true → plan 128 (standing s x) t one one ≡ silent 128 (standing s (silenced x t)) false
+unfolding ramp_in counted
+plan_ended s x t h =
+    quiet s x t (silent 128 (standing s (silenced x t)) false) (bare_ended s x t h)
+    ∙ ap (λ (r : Ramp). silent 128 (with_ramp (standing s (silenced x t)) (counted 128 r 128)) false) (stays x.started _ (hushed x.ramp))
 
 -- ---- the start
 time_same : (t : Float) → Time t → eq t t ≡ true
@@ -189,13 +205,13 @@ module _ (g : Ground) where
     aligned_is =
         simp (start_is s x t, aligned_first, ratio_one s.rate R g.value g.low g.high, closed.one_one, closed.one_same, closed.none_same, (clip_itself s.rate R g.value g.low g.high s.frames g.long g.short).1, not_far)
 
-    pub plan_aligned : lt s.stop (block_end 128 t s.rate) ≡ false → plan 128 (standing s x) t one one ≡ aligned_plan 128 (standing s x) t (mul binary64 one one)
-    unfolding plan
-    plan_aligned e = third x.ended _ (is_aligned 128 (standing s x) t (mul binary64 one one)) _ _ _ _ a.going not_late (aligned_is ∙ ap not e)
+    pub plan_aligned : lt s.stop (block_end 128 t s.rate) ≡ false → plan 128 (standing s x) t one one ≡ counting 128 (standing s x) (aligned_plan 128 (standing s x) t (mul binary64 one one))
+    unfolding bare_plan
+    plan_aligned e = quiet s x t (aligned_plan 128 (standing s x) t (mul binary64 one one)) (third x.ended _ (is_aligned 128 (standing s x) t (mul binary64 one one)) _ _ _ _ a.going not_late (aligned_is ∙ ap not e))
 
-    pub plan_between : lt s.stop (block_end 128 t s.rate) ≡ true → plan 128 (standing s x) t one one ≡ sub_sample_plan 128 (standing s x) t one (mul binary64 one one)
-    unfolding plan
-    plan_between e = fourth x.ended _ (is_aligned 128 (standing s x) t (mul binary64 one one)) _ _ _ _ a.going not_late (aligned_is ∙ ap not e)
+    pub plan_between : lt s.stop (block_end 128 t s.rate) ≡ true → plan 128 (standing s x) t one one ≡ counting 128 (standing s x) (sub_sample_plan 128 (standing s x) t one (mul binary64 one one))
+    unfolding bare_plan
+    plan_between e = quiet s x t (sub_sample_plan 128 (standing s x) t one (mul binary64 one one)) (fourth x.ended _ (is_aligned 128 (standing s x) t (mul binary64 one one)) _ _ _ _ a.going not_late (aligned_is ∙ ap not e))
 
     -- ---- what follows an aligned block
     pub later : Float
@@ -218,11 +234,14 @@ module _ (g : Ground) where
       ended = has_ended 128 (standing s x) t (mul binary64 one one) later longer;
       has_block = true;
       time = t;
+      ramp = ramp_after 128 (standing s x) (aligned_plan 128 (standing s x) t (mul binary64 one one));
     }
 
-    pub aligned_player : (aligned_plan 128 (standing s x) t (mul binary64 one one)).player ≡ standing s carried
+    pub aligned_player : (counting 128 (standing s x) (aligned_plan 128 (standing s x) t (mul binary64 one one))).player ≡ standing s carried
     unfolding aligned_plan turns_over carried later longer start_at
-    aligned_player = refl
+    aligned_player =
+        let q = aligned_plan 128 (standing s x) t (mul binary64 one one) in
+        ap (with_ramp q.player) (sym (hushed_is (ramp_after 128 (standing s x) q) (after_length 128 (standing s x) q)))
 
     pub aligned_channels : (aligned_plan 128 (standing s x) t (mul binary64 one one)).channels ≡ s.channels
     unfolding aligned_plan
@@ -341,11 +360,14 @@ module _ (g : Ground) where
       ended = has_ended 128 (standing s x) t (mul binary64 one one) last.buffer_time.0 last.buffer_time_elapsed.0;
       has_block = true;
       time = t;
+      ramp = ramp_after 128 (standing s x) (sub_sample_plan 128 (standing s x) t one (mul binary64 one one));
     }
 
-    pub between_player : (sub_sample_plan 128 (standing s x) t one (mul binary64 one one)).player ≡ standing s cut_short
+    pub between_player : (counting 128 (standing s x) (sub_sample_plan 128 (standing s x) t one (mul binary64 one one))).player ≡ standing s cut_short
     unfolding sub_sample_plan cut_short last
-    between_player = refl
+    between_player =
+        let q = sub_sample_plan 128 (standing s x) t one (mul binary64 one one) in
+        ap (with_ramp q.player) (sym (hushed_is (ramp_after 128 (standing s x) q) (after_length 128 (standing s x) q)))
 
     pub between_channels : (sub_sample_plan 128 (standing s x) t one (mul binary64 one one)).channels ≡ s.channels
     unfolding sub_sample_plan
@@ -379,6 +401,7 @@ switched x on = record {
   ended = x.ended;
   has_block = x.has_block;
   time = x.time;
+  ramp = x.ramp;
 }
 
 pub switch_player : (s : Setup) (x : State) (on : Bool) → lt (duration s.frames s.rate) float_zero ≡ false → next (standing s x) (message (Loop on)) ≡ standing s (switched x on)

@@ -13,7 +13,7 @@ use Rattle.player.specs.Record.{fresh_with}
 use Rattle.player.specs.Messages.{clamped_start, clamped_end, clamped, bad_time, on_start, on_stop, on_loop, handled, buffered}
 use Rattle.aligned.specs.Aligned.{first_frame, ends_within, played, next_frame, last_wrap, aligned_position}
 use Rattle.sub_sample.specs.SubSample.{head_at}
-use Rattle.player.specs.Block.{idle, start_at, is_aligned, has_ended, turns_over, aligned_plan, sub_sample_plan, settings, first_head, plan, bad_block_time, bad_rate, bad_samples, checked, rendered}
+use Rattle.player.specs.Block.{idle, start_at, is_aligned, has_ended, turns_over, aligned_plan, sub_sample_plan, settings, first_head, bare_plan, ramped_plan, bad_block_time, bad_rate, bad_samples, checked, rendered}
 use Rattle.tape.specs.Tape as tape
 use Rattle.tape.specs.Tape.{Tape, stepped, stepped_all, has_block, stays_off}
 use Rattle.claims.specs.Calls.{Call, all_typed, accepts, next, accepted, opening, playing, Clip, Started, clip_in, start_in, stop_in, point_in, gathered}
@@ -59,7 +59,7 @@ met options l calls count t typed clips starts time stops points turns off size 
 
 pub switch_instances : SwitchInstances
 unfolding accepted accepts next opening playing handled buffered on_start on_stop on_loop bad_time clamped clamped_start clamped_end fresh_with valid_rate valid_shape duration
-    rendered checked bad_block_time bad_rate bad_samples plan is_aligned start_at aligned_plan sub_sample_plan settings first_head head_at has_ended turns_over first_frame
+    rendered checked bad_block_time bad_rate bad_samples bare_plan ramped_plan is_aligned start_at aligned_plan sub_sample_plan settings first_head head_at has_ended turns_over first_frame
     ends_within played next_frame last_wrap aligned_position dt block_seconds block_end idle tape.head_at stepped stepped_all has_block stays_off
     round_away of_bits of_int round sum add mul div rem lt le eq ne neg sub to_unsigned fits
 switch_instances = record {

@@ -125,7 +125,7 @@ begins_by rate es h = record {
     float_zero : (l : List Float) → l ≡ [] → length l ≤ 1
     float_zero l e = rw e (omega arith)
 
-module _ (rate : Float) (options : PlayerOptions) (f : T (fits binary32 rate)) (ok : T (valid_rate rate)) (calls : List Call) (ty : T (all_typed calls)) (h : SwitchPremises rate (accepted (fresh_with rate options) calls)) where
+module _ (rate : Float) (options : PlayerOptions) (quiet : options.ramp ≡ 0) (f : T (fits binary32 rate)) (ok : T (valid_rate rate)) (calls : List Call) (ty : T (all_typed calls)) (h : SwitchPremises rate (accepted (fresh_with rate options) calls)) where
   abbrev es : List Event
   es = accepted (fresh_with rate options) calls
 
@@ -133,20 +133,20 @@ module _ (rate : Float) (options : PlayerOptions) (f : T (fits binary32 rate)) (
   b = begins_by rate es h
 
   abbrev g : Ground
-  g = ground rate options f ok calls ty b
+  g = ground rate options quiet f ok calls ty b
 
   abbrev s : Setup
   s = g.setup
 
   abbrev x : State
-  x = first rate options f ok calls ty b
+  x = first rate options quiet f ok calls ty b
 
   -- the tape at the first block
   abbrev t : Tape
-  t = begun (got rate options f ok calls ty b).looped
+  t = begun (got rate options quiet f ok calls ty b).looped
 
   opening_tape : tape_after h.clip.frames (opening es) ≡ t
-  opening_tape = tape_is rate options f ok calls ty b 128
+  opening_tape = tape_is rate options quiet f ok calls ty b 128
 
   tape_parts : (front : List Event) → tape_after h.clip.frames (opening es ++ front) ≡ stepped_all 128 h.clip.frames t (gathered step_in front)
   tape_parts front =
@@ -164,7 +164,7 @@ module _ (rate : Float) (options : PlayerOptions) (f : T (fits binary32 rate)) (
   At u z rest = Moment g (Meets s.stop) u z rest
 
   at_first : At t x (playing es)
-  at_first = moment rate options f ok calls ty b (Meets s.stop) h.only_steps still_off
+  at_first = moment rate options quiet f ok calls ty b (Meets s.stop) h.only_steps still_off
 
   -- no stop was sent
   no_stop : (time : Float) → Time time → le s.stop (block_end 128 time rate) ≡ false
@@ -181,7 +181,7 @@ module _ (rate : Float) (options : PlayerOptions) (f : T (fits binary32 rate)) (
       let r = reach g (Meets s.stop) (up_reach g) l.more back t x (subst (At t x) rest at_first) (hits_reach g l.more) in
       let tape_there : stepped_all 128 h.clip.frames t (gathered step_in l.more) ≡ tape_after h.clip.frames front = sym (ap (tape_after h.clip.frames) is ∙ tape_parts l.more) in
       let player_there : after_all (standing s x) l.more ≡ after_all (fresh_with rate options) front =
-      sym (ap (after_all (fresh_with rate options)) is ∙ after_on (fresh_with rate options) (opening es) l.more ∙ ap (λ (p : Player). after_all p l.more) (first_is rate options f ok calls ty b)) in
+      sym (ap (after_all (fresh_with rate options)) is ∙ after_on (fresh_with rate options) (opening es) l.more ∙ ap (λ (p : Player). after_all p l.more) (first_is rate options quiet f ok calls ty b)) in
       subst (λ (u : Tape). Reached g (Meets s.stop) u (after_all (fresh_with rate options) front) back) tape_there
       (subst (λ (p : Player). Reached g (Meets s.stop) (stepped_all 128 h.clip.frames t (gathered step_in l.more)) p back) player_there r)
 

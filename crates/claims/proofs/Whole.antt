@@ -62,7 +62,7 @@ begins_of rate es h = record {
   no_points = h.no_points;
 }
 
-module _ (rate : Float) (options : PlayerOptions) (f : T (fits binary32 rate)) (ok : T (valid_rate rate)) (calls : List Call) (ty : T (all_typed calls)) (h : Premises rate (accepted (fresh_with rate options) calls)) where
+module _ (rate : Float) (options : PlayerOptions) (quiet : options.ramp ≡ 0) (f : T (fits binary32 rate)) (ok : T (valid_rate rate)) (calls : List Call) (ty : T (all_typed calls)) (h : Premises rate (accepted (fresh_with rate options) calls)) where
   abbrev es : List Event
   es = accepted (fresh_with rate options) calls
 
@@ -70,13 +70,13 @@ module _ (rate : Float) (options : PlayerOptions) (f : T (fits binary32 rate)) (
   b = begins_of rate es h
 
   abbrev g : Ground
-  g = ground rate options f ok calls ty b
+  g = ground rate options quiet f ok calls ty b
 
   abbrev s : Setup
   s = g.setup
 
   abbrev x : State
-  x = first rate options f ok calls ty b
+  x = first rate options quiet f ok calls ty b
 
   abbrev stops : List Float
   stops = gathered stop_in (opening es)
@@ -84,19 +84,19 @@ module _ (rate : Float) (options : PlayerOptions) (f : T (fits binary32 rate)) (
   abbrev on : Bool
   on = switched_on (gathered switch_in (opening es))
 
-  loop_is : (got rate options f ok calls ty b).looped ≡ on
+  loop_is : (got rate options quiet f ok calls ty b).looped ≡ on
   loop_is = loop_of_switch (opening es) h.few_switches
 
   -- after k blocks the tape is one without a switch
-  tape_at : (k : ℕ) → Unswitched 128 h.clip.frames on k (stepped_all 128 h.clip.frames (begun (got rate options f ok calls ty b).looped) (replicate k a_block))
+  tape_at : (k : ℕ) → Unswitched 128 h.clip.frames on k (stepped_all 128 h.clip.frames (begun (got rate options quiet f ok calls ty b).looped) (replicate k a_block))
   tape_at k =
-      unswitched_after 128 h.clip.frames (lit< tt) g.long on k (begun (got rate options f ok calls ty b).looped)
+      unswitched_after 128 h.clip.frames (lit< tt) g.long on k (begun (got rate options quiet f ok calls ty b).looped)
       (subst (λ (c : Bool). Unswitched 128 h.clip.frames on 0 (begun c)) (sym loop_is) (unswitched_none 128 h.clip.frames on))
 
-  at_first : (X : Float → Type 0) → Moment g X (begun (got rate options f ok calls ty b).looped) x (playing es)
+  at_first : (X : Float → Type 0) → Moment g X (begun (got rate options quiet f ok calls ty b).looped) x (playing es)
   at_first X =
-      moment rate options f ok calls ty b X (only_steps_of h.clip.samples (playing es) h.only_blocks)
-      (subst (λ (ts : List Step). T (stays_off 128 h.clip.frames (begun (got rate options f ok calls ty b).looped) ts)) (sym (steps_of h.clip.samples (playing es) h.only_blocks)) (off_blocks 128 h.clip.frames (length (playing es)) _))
+      moment rate options quiet f ok calls ty b X (only_steps_of h.clip.samples (playing es) h.only_blocks)
+      (subst (λ (ts : List Step). T (stays_off 128 h.clip.frames (begun (got rate options quiet f ok calls ty b).looped) ts)) (sym (steps_of h.clip.samples (playing es) h.only_blocks)) (off_blocks 128 h.clip.frames (length (playing es)) _))
 
   -- ---- one of the blocks
   module _ (front : List Event) (e : Event) (back : List Event) (split : playing es ≡ front ++ (e ∷ back)) where
@@ -110,10 +110,10 @@ module _ (rate : Float) (options : PlayerOptions) (f : T (fits binary32 rate)) (
     c = plain h.clip.samples e.call here.1.0
 
     abbrev t : Tape
-    t = stepped_all 128 h.clip.frames (begun (got rate options f ok calls ty b).looped) (gathered step_in front)
+    t = stepped_all 128 h.clip.frames (begun (got rate options quiet f ok calls ty b).looped) (gathered step_in front)
 
-    t_is : t ≡ stepped_all 128 h.clip.frames (begun (got rate options f ok calls ty b).looped) (replicate k a_block)
-    t_is = ap (stepped_all 128 h.clip.frames (begun (got rate options f ok calls ty b).looped)) (steps_of h.clip.samples front here.0)
+    t_is : t ≡ stepped_all 128 h.clip.frames (begun (got rate options quiet f ok calls ty b).looped) (replicate k a_block)
+    t_is = ap (stepped_all 128 h.clip.frames (begun (got rate options quiet f ok calls ty b).looped)) (steps_of h.clip.samples front here.0)
 
     before : Unswitched 128 h.clip.frames on k t
     before = subst (Unswitched 128 h.clip.frames on k) (sym t_is) (tape_at k)
@@ -121,8 +121,8 @@ module _ (rate : Float) (options : PlayerOptions) (f : T (fits binary32 rate)) (
     reached : (X : Float → Type 0) → Upward X → Hits g X front
         → Reached g X t (after_all (standing s x) front) (e ∷ back)
     reached X up hits =
-        reach g X up front (e ∷ back) (begun (got rate options f ok calls ty b).looped) x
-        (subst (Moment g X (begun (got rate options f ok calls ty b).looped) x) split (at_first X)) hits
+        reach g X up front (e ∷ back) (begun (got rate options quiet f ok calls ty b).looped) x
+        (subst (Moment g X (begun (got rate options quiet f ok calls ty b).looped) x) split (at_first X)) hits
 
     met : Reached g (Meets s.stop) t (after_all (standing s x) front) (e ∷ back)
     met = reached (Meets s.stop) (up_reach g) (hits_reach g front)
@@ -160,10 +160,10 @@ module _ (rate : Float) (options : PlayerOptions) (f : T (fits binary32 rate)) (
   unfolding stepped_all
   holds = record {
     begins =
-        subst (Stands rate on h.clip.frames 0) (sym (first_is rate options f ok calls ty b))
-        (stands_by g (λ z. ⊥) on 0 (begun (got rate options f ok calls ty b).looped) x (tape_at 0) (λ p. p.past) (at_first (λ z. ⊥)).inv);
+        subst (Stands rate on h.clip.frames 0) (sym (first_is rate options quiet f ok calls ty b))
+        (stands_by g (λ z. ⊥) on 0 (begun (got rate options quiet f ok calls ty b).looped) x (tape_at 0) (λ p. p.past) (at_first (λ z. ⊥)).inv);
     each = block_holds;
   }
 
 pub long_run_lem : LongRun
-long_run_lem rate options f ok calls ty h = holds rate options f ok calls ty h
+long_run_lem rate options quiet f ok calls ty h = holds rate options quiet f ok calls ty h

@@ -7,6 +7,7 @@ use Rattle.std.specs.Float.{fin}
 use Rattle.seconds.specs.Seconds.{float_zero, one}
 use Rattle.player.specs.Record.{fresh_with}
 use Rattle.player.specs.declared.Player.{Player}
+use Rattle.tolerances.specs.declared.Tolerances.{Tolerances}
 use Rattle.player.specs.declared.PlayerOptions.{PlayerOptions}
 use Rattle.reshape.specs.Known.{single, mono}
 use Rattle.claims.specs.GivenNumbers as given
@@ -15,7 +16,7 @@ use Rattle.claims.specs.LongRun.{Stands}
 use Rattle.claims.specs.LoopSwitch.{SwitchPremises}
 use Rattle.claims.specs.Longer.{as_call}
 use Rattle.claims.specs.Conversions.{SameInstant}
-use Rattle.claims.specs.Instances.{rate, frames, start, tick, tock, looped_calls, plain_calls, stopped_calls, cents_at, all_heard, said}
+use Rattle.claims.specs.Instances.{rate, frames, start, tick, tock, looped_calls, plain_calls, stopped_calls, cents_at, all_heard, said, unramped}
 use Rattle.claims.specs.SwitchInstances.{clip, block_at, switch, third}
 
 -- the player that a list of calls leaves
@@ -43,11 +44,11 @@ abbrev pub half : Float
 half = fin false 1 (negsuc 0)
 
 pub record ByHand : Type 0 where
-  -- the long run: the bits of two blocks, and where the player stands
-  pub looped_bits : (options : PlayerOptions)
-      → all_heard (playing (accepted (fresh_with rate options) looped_calls)) ≡ said true 0 ∷ said true 1 ∷ []
-  pub plain_bits : (options : PlayerOptions)
-      → all_heard (playing (accepted (fresh_with rate options) plain_calls)) ≡ said false 0 ∷ said false 1 ∷ []
+  -- the long run: the bits of two blocks without a ramp, and where the player stands
+  pub looped_bits : (t : Tolerances)
+      → all_heard (playing (accepted (fresh_with rate (unramped t)) looped_calls)) ≡ said true 0 ∷ said true 1 ∷ []
+  pub plain_bits : (t : Tolerances)
+      → all_heard (playing (accepted (fresh_with rate (unramped t)) plain_calls)) ≡ said false 0 ∷ said false 1 ∷ []
   pub looped_stands : (options : PlayerOptions) → Stands rate true 128 1 (after_calls options one_looped)
   pub plain_stands : (options : PlayerOptions) → Stands rate false 640 5 (after_calls options five_plain)
   pub plain_goes_on : (options : PlayerOptions) → is_ended (after_calls options five_plain) ≡ false

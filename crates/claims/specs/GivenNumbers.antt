@@ -20,7 +20,7 @@ use Rattle.sub_sample.specs.declared.Playhead.{Playhead}
 use Rattle.sub_sample.specs.declared.PlaybackInfo.{PlaybackInfo}
 use Rattle.interpolated.specs.Interpolated.{loop_frame, between}
 use Rattle.player.specs.Record.{render_of, moved}
-use Rattle.player.specs.Block.{Plan, silent, idle, computed_rate, is_aligned, aligned_plan, has_ended, settings, first_head, checked, report_of, written}
+use Rattle.player.specs.Block.{Plan, silent, idle, computed_rate, is_aligned, aligned_plan, has_ended, settings, first_head, ramped_plan, checked, report_of, written}
 use Rattle.player.specs.declared.Player.{Player}
 use Rattle.player.specs.declared.BlockReport.{BlockReport}
 use Rattle.reshape.specs.Converting.{converted_length, resampled_channels}
@@ -81,6 +81,11 @@ module _ (close small apart : Float) where
   head_at s h zero = h
   head_at s h (suc i) = stepped s i (head_at s h i)
 
+  -- the samples before the starting one
+  unfoldable pub before_start : Settings → Playhead → ℕ → ℕ
+  before_start s h zero = 0
+  before_start s h (suc i) = cond (head_at s h (suc i)).started (before_start s h i) (before_start s h i + 1)
+
   -- ---- the samples' bits
   -- unlooped, the sample after the last is continued from the last two frames
   unfoldable pub extrapolated : List ℕ → ℕ → Float → Float
@@ -114,21 +119,26 @@ module _ (close small apart : Float) where
             (render_of l.buffer_time.0 l.started l.entered_loop l.buffer_time_elapsed.0 false ended) time;
         keep_alive = true;
         channels = p.shape.channels;
+        uncounted = before_start s h n;
         sample = λ frames i. sample_of s frames (info_of_sample s i (head_at s h i));
       }
 
   -- the order of the block's cases
-  unfoldable pub plan : ℕ → Player → Float → Float → Float → Plan
-  plan n p time rate factor =
+  unfoldable pub bare_plan : ℕ → Player → Float → Float → Float → Plan
+  bare_plan n p time rate factor =
       let end = block_end n time p.sample_rate in
       let computed = computed_rate rate factor in
-      cond p.render_state.ended (silent (idle p time true) false)
-      (cond (not p.has_buffer && ne p.start_time.0 never) (silent (idle p time true) false)
+      cond p.render_state.ended (silent n (idle p time true) false)
+      (cond (not p.has_buffer && ne p.start_time.0 never) (silent n (idle p time true) false)
       (cond (le end p.start_time.0)
-      (cond (le p.stop_time.0 end) (silent (idle p time true) false) (silent (idle p time false) (ne p.start_time.0 never)))
-      (cond (not p.has_buffer) (silent (idle p time false) false)
+      (cond (le p.stop_time.0 end) (silent n (idle p time true) false) (silent n (idle p time false) (ne p.start_time.0 never)))
+      (cond (not p.has_buffer) (silent n (idle p time false) false)
       (cond (is_aligned n p time computed) (aligned_plan n p time computed)
       (sub_sample_plan n p time rate computed)))))
+
+  -- with the ramp, which has no near test
+  abbrev pub plan : ℕ → Player → Float → Float → Float → Plan
+  plan n p time rate factor = ramped_plan n p (bare_plan n p time rate factor)
 
   unfoldable pub rendered : ℕ → Player → ℕ → ℕ → Float → Float → Float → Result BlockReport Refusal
   rendered n p outLength samplesLength time rate factor =

@@ -8,6 +8,7 @@ use Rattle.buffer.specs.declared.refusals.Refusal.TheVariants as refused
 use Rattle.lists.specs.Table.{table}
 use Rattle.seconds.specs.Seconds.{float_zero, never, one, instant, block_end}
 use Rattle.player.specs.Record.{fresh_with, default_options}
+use Rattle.tolerances.specs.declared.Tolerances.{Tolerances}
 use Rattle.player.specs.declared.PlayerOptions.{PlayerOptions}
 use Rattle.player.specs.declared.ControlMessage.TheVariants.{Start, Stop, Loop}
 use Rattle.claims.specs.Calls.{Call, buffer, message, block, all_typed, Event, accepted, after, output_by, is_ended, playing, Clip}
@@ -119,6 +120,10 @@ previewed_calls =
 abbrev pub between_calls : List LongerCall
 between_calls = look_at tick ∷ look_in_cents float_zero (pos 50) ∷ short_look tock ∷ []
 
+-- options without a ramp
+abbrev pub unramped : Tolerances → PlayerOptions
+unramped t = record { tolerances = t; ramp = 0 }
+
 -- the premises are met by a player made with these options, and this many blocks are accepted
 pub record Met (options : PlayerOptions) (calls : List Call) (blocks : ℕ) : Type 0 where
   pub single : T (fits binary32 rate)
@@ -158,12 +163,12 @@ pub record MetWithin (options : PlayerOptions) : Type 0 where
   pub instants : table 128 (λ i. reaches (instant float_zero rate i) (within ∷ [])) ≡ replicate 94 false ++ replicate 34 true
   pub ended : all_ended (playing (accepted (fresh_with rate options) (stop_calls within))) ≡ true ∷ true ∷ []
 
--- and that whatever the player is made with
+-- and that whatever the player is made with; where samples are told, without a ramp
 pub record Instances : Type 0 where
   pub looped : (options : PlayerOptions) → Met options looped_calls 2
   pub plain : (options : PlayerOptions) → Met options plain_calls 2
   pub stopped : (options : PlayerOptions) → Met options stopped_calls 3
-  pub at_stop : (options : PlayerOptions) → MetAtStop options
+  pub at_stop : (t : Tolerances) → MetAtStop (unramped t)
   pub within_stop : (options : PlayerOptions) → MetWithin options
   -- with the defaults, the samples before a stop within the block play too, and from the stop on they are zero
   pub zero_from_stop : all_heard (playing (accepted (fresh_with rate default_options) (stop_calls within)))

@@ -10,3 +10,5 @@ pub mod Known
 pub mod Conversions
 pub mod GivenNumbers
 pub mod Tolerances
+pub mod Ramps
+pub mod RampInstances

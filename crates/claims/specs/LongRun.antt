@@ -163,9 +163,10 @@ pub record Holds (rate : Float) (options : PlayerOptions) (es : List Event) (cli
   pub each : (front : List Event) (e : Event) (back : List Event) → playing es ≡ front ++ (e ∷ back)
       → Block rate (switched_on (gathered switch_in (opening es))) clip (gathered stop_in (opening es)) front e back
 
--- the claim: for every output rate that a player can be made for, whatever tolerances it is made with, and every list of calls on
--- that fresh player; the one that is made for a rate alone has the defaults
+-- the claim: for every output rate that a player can be made for, whatever tolerances it is made with, without a ramp, and every list of
+-- calls on that fresh player; the one that is made for a rate alone has the defaults, and no ramp
 abbrev pub LongRun : Type 0
 LongRun =
-    (rate : Float) (options : PlayerOptions) → T (fits binary32 rate) → T (valid_rate rate) → (calls : List Call) → T (all_typed calls)
+    (rate : Float) (options : PlayerOptions) → options.ramp ≡ 0 → T (fits binary32 rate) → T (valid_rate rate)
+    → (calls : List Call) → T (all_typed calls)
     → (h : Premises rate (accepted (fresh_with rate options) calls)) → Holds rate options (accepted (fresh_with rate options) calls) h.clip

@@ -126,12 +126,12 @@ pub record InCents : Type 0 where
   pub at_zero : (p : Player) (out samples : List ℕ) (time rate : Float)
       → outcome_longer p (in_cents out samples time rate (pos 0)) ≡ outcome p (block out samples time rate one)
   -- the long run's statement holds of the list so replaced
-  pub long_run : (rate : Float) (options : PlayerOptions) → T (fits binary32 rate) → T (valid_rate rate)
+  pub long_run : (rate : Float) (options : PlayerOptions) → options.ramp ≡ 0 → T (fits binary32 rate) → T (valid_rate rate)
       → (calls : List LongerCall) → T (all_typed_longer calls)
       → (h : Premises rate (accepted (fresh_with rate options) (replaced (fresh_with rate options) calls)))
       → Holds rate options (accepted (fresh_with rate options) (replaced (fresh_with rate options) calls)) h.clip
   -- and so does the statement about the loop switched during playback
-  pub loop_switch : (rate : Float) (options : PlayerOptions) → T (fits binary32 rate) → T (valid_rate rate)
+  pub loop_switch : (rate : Float) (options : PlayerOptions) → options.ramp ≡ 0 → T (fits binary32 rate) → T (valid_rate rate)
       → (calls : List LongerCall) → T (all_typed_longer calls)
       → (h : SwitchPremises rate (accepted (fresh_with rate options) (replaced (fresh_with rate options) calls)))
       → Switched rate options (accepted (fresh_with rate options) (replaced (fresh_with rate options) calls)) h.clip

@@ -119,9 +119,10 @@ pub record NoSwitch (n : ℕ) (looped : Bool) (clip : Clip) (k : ℕ) : Type 0 w
 
 -- ---- the claim
 pub record LoopSwitch : Type 0 where
-  -- for every output rate that a player can be made for, whatever tolerances it is made with, and every list of calls on that fresh player
-  pub switched : (rate : Float) (options : PlayerOptions) → T (fits binary32 rate) → T (valid_rate rate) → (calls : List Call)
-      → T (all_typed calls)
+  -- for every output rate that a player can be made for, whatever tolerances it is made with, without a ramp, and every list of calls on
+  -- that fresh player
+  pub switched : (rate : Float) (options : PlayerOptions) → options.ramp ≡ 0 → T (fits binary32 rate) → T (valid_rate rate)
+      → (calls : List Call) → T (all_typed calls)
       → (h : SwitchPremises rate (accepted (fresh_with rate options) calls))
       → Switched rate options (accepted (fresh_with rate options) calls) h.clip
   -- every list of the long run without a stop is one of these lists

@@ -1,7 +1,7 @@
 -- The tolerances (docs/REFERENCE.md, 'Near tests and tolerances'): a player keeps those that it was made with, a conversion is handed them,
 -- every near test receives them, and nothing else reads them. At the defaults, which a player made for a rate alone has, a block and a
 -- conversion are those of the three default numbers. Definitions only.
-use Rattle.std.specs.Prelude.{◌≡◌, List, ℕ, true, false, T, Float, Option, Result, Ok, Err}
+use Rattle.std.specs.Prelude.{◌≡◌, List, ℕ, ◌≤◌, true, false, T, Float, Option, Result, Ok, Err}
 use Rattle.std.specs.Float.{binary32}
 use Rattle.std.specs.Float.Ieee.{fits}
 use Rattle.rounding.specs.Near.{near_tolerance, rate_tolerance}
@@ -18,6 +18,7 @@ use Rattle.sub_sample.specs.declared.PlaybackInfo.{PlaybackInfo}
 use Rattle.interpolated.specs.Interpolated as interpolated
 use Rattle.reshape.specs.Converting as converting
 use Rattle.player.specs.Record.{default_options, fresh, fresh_with}
+use Rattle.ramps.specs.Ramps.{longest}
 use Rattle.player.specs.Messages as messages
 use Rattle.player.specs.Block as block
 use Rattle.player.specs.Block.{Plan}
@@ -32,8 +33,9 @@ use Rattle.claims.specs.Longer.{LongerCall, left}
 
 -- ---- a player is made with a record of tolerances, and keeps it
 pub record KeepsTolerances : Type 0 where
-  -- a valid rate makes a fresh player with any options, whatever tolerances stand in them; another rate is refused by 2, whatever they are
-  pub made : (rate : Float) (options : PlayerOptions) → valid_rate rate ≡ true
+  -- a valid rate makes a fresh player with any options whose ramp is not too long, whatever tolerances stand in them; another rate is
+  -- refused by 2, whatever they are
+  pub made : (rate : Float) (options : PlayerOptions) → valid_rate rate ≡ true → options.ramp ≤ longest
       → messages.made_with rate options ≡ Ok (fresh_with rate options)
   pub refused : (rate : Float) (options : PlayerOptions) → valid_rate rate ≡ false → messages.made_with rate options ≡ Err refused.Rate
   pub has : (rate : Float) (options : PlayerOptions) → (fresh_with rate options).tolerances ≡ options.tolerances
@@ -104,10 +106,17 @@ holding p t = record {
   has_block = p.has_block;
   block_time = p.block_time;
   tolerances = t;
+  ramp = p.ramp;
 }
 
 abbrev pub planned : Plan → Tolerances → Plan
-planned q t = record { player = holding q.player t; keep_alive = q.keep_alive; channels = q.channels; sample = q.sample }
+planned q t = record {
+  player = holding q.player t;
+  keep_alive = q.keep_alive;
+  channels = q.channels;
+  uncounted = q.uncounted;
+  sample = q.sample;
+}
 
 abbrev pub answered : Result BlockReport Refusal → Tolerances → Result BlockReport Refusal
 answered (Ok r) t =

@@ -1,5 +1,5 @@
-//! Statements about every list of calls on one player, about conversions, and about the tolerances
-//! (docs/REFERENCE.md, 'The long run', 'The loop switch', 'Conversion' and 'Near tests and tolerances').
+//! Statements about every list of calls on one player, about conversions, the tolerances and ramps
+//! (docs/REFERENCE.md, 'The long run', 'The loop switch', 'Conversion', 'Near tests and tolerances' and 'Ramps').
 //! Each function here only carries its contract, which is a statement: what it says is proved for the
 //! definitions of the crates below, and the check names it.
 #![tactic(auto)]
@@ -11,6 +11,8 @@ ghost use Rattle.claims.specs.Known.{KnownFrames};
 ghost use Rattle.claims.specs.LongRun.{LongRun};
 ghost use Rattle.claims.specs.Longer.{InCents, Previews};
 ghost use Rattle.claims.specs.LoopSwitch.{LoopSwitch};
+ghost use Rattle.claims.specs.RampInstances.{RampInstances};
+ghost use Rattle.claims.specs.Ramps.{NoRamp, AnyRamp};
 ghost use Rattle.claims.specs.SwitchInstances.{SwitchInstances};
 ghost use Rattle.claims.specs.Tolerances.{KeepsTolerances, Receives, ReadNowhereElse, AtDefaults};
 
@@ -88,6 +90,25 @@ pub fn tolerances_read_nowhere_else()
 #[tactic(auto, using(crate::proofs::GivenNumbers::at_defaults))]
 pub fn at_defaults()
     ensures { AtDefaults }
+{}
+
+/// With a ramp of length 0 a block is the one without a ramp, which reads none.
+#[tactic(auto, using(crate::proofs::Ramps::no_ramp))]
+pub fn without_a_ramp()
+    ensures { NoRamp }
+{}
+
+/// With any ramp, over every list of calls, each call answers what it answers without, and moves the player
+/// the same; a sample's bits are those without a ramp, times the factor of its number.
+#[tactic(auto, using(crate::proofs::AnyRamp::any_ramp))]
+pub fn with_any_ramp()
+    ensures { AnyRamp }
+{}
+
+/// Ramps on lists of calls that can be followed: where each begins to count, and where it is zero.
+#[tactic(auto, using(crate::proofs::RampInstances::ramp_instances))]
+pub fn ramps_are_met()
+    ensures { RampInstances }
 {}
 
 /// Conversion by a real change keeps time. Frame i of the result is read at i × source rate / target
