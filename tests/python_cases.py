@@ -1001,7 +1001,7 @@ def errors():
             same = all(getattr(again, name) == getattr(made, name) for name in ("args", "call", "number", "argument", "hint", "words"))
             check(f"{made} again", same and str(again) == str(made) and type(again) is netthimble.Refused and isinstance(again, ValueError))
     check("what it says", str(netthimble.Refused("stop", 11)) == "stop: refused with 11: a stop before a start")
-    check("all numbers have words", sorted(netthimble.WORDS) == list(range(1, 19)))
+    check("all numbers have words", sorted(netthimble.WORDS) == list(range(1, 20)))
     clip = netthimble.Clip.from_bits(48000, [[1, 0x7FC00001], [3, 4]], 1)
     for again in (pickle.loads(pickle.dumps(clip)), copy.copy(clip), copy.deepcopy(clip)):
         check("a clip again", whole(again) == whole(clip))
