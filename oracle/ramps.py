@@ -88,14 +88,15 @@ class Ramper:
     # ------------------------------------------------------------ made anew
 
     def made(self):
-        """Blocks about a start, and what may stop them."""
+        """Blocks about a start, and what may stop them; one script in three is aligned as long as it can be."""
         rng, maker, length = self.rng, self.maker, self.length()
+        aligned = rng.random() < 0.33
         rate, frames = (48000.0 if rng.random() < 0.5 else maker.rate()), maker.length()
         count = rng.randint(2, 9) if rng.random() < 0.85 else rng.randint(10, 24)
-        times, clip_rate = maker.clock(rate, count), rate if rng.random() < 0.8 else maker.rate()
-        start = self.start(times, rate)
-        offset = 0.0 if rng.random() < 0.75 else maker.buffer_time(frames, clip_rate)
-        duration = MAX if rng.random() < 0.9 else maker.buffer_time(frames, clip_rate) + rng.choice([0.0, 300 / rate])
+        times, clip_rate = maker.clock(rate, count), rate if aligned or rng.random() < 0.8 else maker.rate()
+        start = times[0] if aligned else self.start(times, rate)
+        offset = 0.0 if aligned or rng.random() < 0.75 else maker.buffer_time(frames, clip_rate)
+        duration = MAX if aligned or rng.random() < 0.9 else maker.buffer_time(frames, clip_rate) + rng.choice([0.0, 300 / rate])
         units = [self.clip(maker.channels(), frames, clip_rate), f"S {x64(start)} {x64(offset)} {x64(duration)}"]
         units += ["L 1"] if rng.random() < 0.85 else []
         stops = [self.stop(start, rate, length, 128 * count) for _ in range(rng.choice([0, 1, 1, 1, 2, 3]))]
@@ -103,7 +104,7 @@ class Ramper:
             units.append(stops.pop())
         if rng.random() < 0.1:
             rng.shuffle(units)
-        speed = maker.plain() if rng.random() < 0.6 else maker.speed()
+        speed = maker.plain() if aligned or rng.random() < 0.6 else maker.speed()
         for time in times:
             if stops and rng.random() < 2 / count:
                 units.append(stops.pop())
@@ -148,7 +149,7 @@ class Ramper:
         if r < 0.15:
             return f"T {x64(start)}"
         number = rng.choice([0, 1, 2, 127, 128, 129, 255, 256, 257, length - 1, length, length + 1, 2 * length - 1, 2 * length, 2 * length + 1,
-                             rng.randint(0, samples), rng.randint(0, samples), rng.randint(0, 2 * length + 1)])
+                             rng.randint(0, samples), rng.randint(0, samples), rng.randint(0, 2 * length + 1), length + rng.randint(0, samples)])
         number += rng.choice([0, 0, 0, 0, 0.5, 0.25, 0.999999, -0.000001, 0.000001, rng.random()])
         number = -number if rng.random() < 0.08 else number
         when = max(start + number / rate, 0.0)

@@ -4,7 +4,7 @@
 #include <pthread.h>
 #include "check.h"
 
-enum { ROOM = 1 << 18, OF_A_BLOCK = 16384, OF_A_STAIRCASE = 8192, OF_ANOTHER = 2048, PAINT = 0xA5, CLIP = 32 * 300 };
+enum { ROOM = 1 << 18, OF_A_BLOCK = 16384, OF_A_STAIRCASE = 8192OF_A_MESSAGE_BY_VALUE = 3072, OF_ANOTHER = 2048, PAINT = 0xA5, CLIP = 32 * 300, RAMP = 48000 };
 
 static netthimble_player player, loaded;
 static netthimble_tolerances tolerances;
@@ -160,6 +160,11 @@ static size_t allowed(const char *name) {
     return strstr(name, "staircase") ? OF_A_STAIRCASE : OF_ANOTHER;
 }
 
+static size_t most(const char *name) {
+    if (strstr(name, "block") || strstr(name, "preview")) return OF_A_BLOCK;
+    return strcmp(name, "messages") == 0 ? OF_A_MESSAGE_BY_VALUE : OF_ANOTHER;
+}
+
 int main(void) {
     const struct {
         const char *name;
@@ -170,14 +175,15 @@ int main(void) {
                  {"staircase", staircase}};
     for (size_t i = 0; i < CLIP; i++) clip[i] = netthimble_bits((float)(i % 101) / 64.0f - 0.5f);
     options = netthimble_default_options();
+    options.ramp = RAMP;
     tolerances = options.tolerances;
-    CHECK(netthimble_player_new(&loaded, 44100.0f) == 0 && netthimble_player_set_buffer(&loaded, 32, 300, 44100.0f, clip, CLIP) == 0);
+    CHECK(netthimble_player_new_with(&loaded, 44100.0f, options) == 0 && netthimble_player_set_buffer(&loaded, 32, 300, 44100.0f, clip, CLIP) == 0);
     CHECK(netthimble_player_start(&loaded, 0, 0, NETTHIMBLE_NEVER) == 0 && netthimble_player_loop(&loaded, true) == 0);
     for (size_t i = 0; i < sizeof calls / sizeof *calls; i++) {
         calls[i].call(); /* once before, so that the linker has found the functions */
         size_t bytes = depth(calls[i].call);
         printf("stack: %s: %zu bytes\n", calls[i].name, bytes);
-        CHECK(bytes < allowed(calls[i].name));
+        CHECK(bytes < allowedmost(calls[i].name));
     }
     printf("stack: %d passed, %d failed\n", passed, failed);
     return failed != 0;
