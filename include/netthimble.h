@@ -11,8 +11,7 @@
  *
  * The library keeps no pointer, allocates nothing and has no state of its own. No call takes a lock, waits, or calls the system; of the C
  * library it calls memcpy, memmove and memset. A block takes less than 16 KiB of stack, as tests/c/stack.c measures it, a staircase less than
- * 8message by value less
- * than 3 KiB, and another call less than 2 KiB. A block's time depends on its inputs: docs/LIBRARY.md has the longest that was found.
+ * 8 KiB, a message by value less than 3 KiB, and another call less than 2 KiB. A block's time depends on its inputs: docs/LIBRARY.md has the longest that was found.
  *
  * Threads. A player belongs to one thread at a time: a call reads and alters the record, and has no lock inside. Where one thread plays
  * blocks while another sends messages to the same record, a message can be lost, or a block undone, without a word. So let the audio

@@ -1002,7 +1002,7 @@ def errors():
             check(f"{made} again", same and str(again) == str(made) and type(again) is netthimble.Refused and isinstance(again, ValueError))
     check("what it says", str(netthimble.Refused("stop", 11)) == "stop: refused with 11: a stop before a start")
     rows = re.findall(r"(?m)^\| (\d+) \|", (TOP / "docs/REFERENCE.md").read_text(encoding="utf-8").partition("## Refusals")[2])
-    check("all numbers have words", sorted(netthimble.WORDS) == [*rangeint(number) for number in rows], 20)), 21, 22]rows)
+    check("all numbers have words", sorted(netthimble.WORDS) == [int(number) for number in rows], rows)
     clip = netthimble.Clip.from_bits(48000, [[1, 0x7FC00001], [3, 4]], 1)
     for again in (pickle.loads(pickle.dumps(clip)), copy.copy(clip), copy.deepcopy(clip)):
         check("a clip again", whole(again) == whole(clip))
