@@ -1660,7 +1660,8 @@ def around():
             check(f"import with {call} {size}", *imported(folder, call, size, words))
         early = "has no netthimble_options_size: it is older than this package"
         check("import of an early library", *imported(folder, "player", 200, early, is_alone=True))
-        bare, command = dict(os.environ, NETTHIMBLE_LIBRARY="libnetthimble.so", PYTHONPATH=str(TOP / "python")), [sys.executable, "-B", "-c", "import netthimble"]
+        bare = dict(os.environ, NETTHIMBLE_LIBRARY="libnetthimble.so", PYTHONPATH=str(TOP / "python"))
+        command = [sys.executable, "-B", "-c", "import netthimble"]
         done = run(command, folder=TOP / "target/c", env=bare)
         check("import by a bare name, in its folder", done.returncode == 0 and not done.stdout, done.stdout.decode())
         done = run(command, folder=folder, env=bare)

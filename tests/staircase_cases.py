@@ -234,7 +234,8 @@ def pictures():
     check("picture, mean of 0 and 5", "at reversals, 2.5 dB" in drawn, "")
     for wrong in (b"", b"X 22\n", b"0 1 heard\n", text(2, 0, 5, 8, {4}).encode()[:60]):
         done = run([TOP / "tools/plot_staircase.py"], wrong)
-        check(f"picture of {wrong[:20]!r}", done.returncode == 1 and b"plot_staircase: " in done.stdout and b"Traceback" not in done.stdout, done.stdout.decode())
+        told = b"plot_staircase: " in done.stdout and b"Traceback" not in done.stdout
+        check(f"picture of {wrong[:20]!r}", done.returncode == 1 and told, done.stdout.decode())
 
 
 def main():
