@@ -8,11 +8,11 @@ mod buffers;
 mod clip_mending;
 mod clips;
 mod counters;
-mod pcm;
 mod playing;
 mod previewing;
 mod settings;
 mod staircases;
+mod whole_numbers;
 
 use buffer::{Refusal, Shape};
 use clip::WithOnset;

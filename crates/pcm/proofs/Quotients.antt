@@ -1,19 +1,17 @@
 -- Whole numbers as f64, and their quotient by full scale as f32: exact as an f64, so rounded once. Assumes nothing.
-use Rattle.std.proofs.Common.{◌≡◌, ℕ, suc, ◌+◌, ◌-◌, ◌*◌, ◌^◌, ◌<◌, ◌≤◌, Bool, true, false, cond, leb, ltb, ℤ, pos, negsuc, sym, refl, ap, ◌∙◌, arith, mul-one, mul_assoc, pow_pos, pow-add, lt_of_lt_of_le, le_trans, mul-le-mul_left, mul-lt-mul_of_pos_right, mul-zero}
-use Rattle.std.specs.Int.{from_bool}
+use Rattle.std.proofs.Common.{◌≡◌, ℕ, suc, ◌+◌, ◌-◌, ◌*◌, ◌^◌, ◌<◌, ◌≤◌, Bool, true, false, cond, T, leb, ltb, ℤ, pos, negsuc, sym, refl, ap, ◌∙◌, arith, mul-one, mul_assoc, pow_pos, pow-add, lt_of_lt_of_le, lt_of_le_of_lt, le_trans, mul-le-mul_left, mul-lt-mul_of_pos_right}
 use Rattle.std.proofs.Math.Nat.{pow-le-pow_right}
-use borrow.Author.Tests.{leb-true, leb-false, le-leb, le-ltb, lt-ltb}
-use lib.Dec.{lit<, lit≤}
-use lib.Ieee.{Float, Format, binary32, binary64, prec, emax, low, unlike, minus, round, sum, sub, div, of_int, to_bits}
+use borrow.Author.Tests.{ltb-true, ltb-false, leb-false}
+use lib.Dec.{le→leb, lt→ltb, lit<, lit≤}
+use lib.Ieee.{in_float, Float, Format, binary32, binary64, prec, emax, low, unlike, minus, round, div, of_int, to_bits}
 use lib.Ieee.Exact.{HasValue, round_exact}
 use lib.Ieee.Back.{round_whole}
 use Rattle.rounding.specs.Rounding.{convert, narrow}
 use Rattle.rounding.proofs.Exact.{whole_exact}
-use Rattle.rounding.proofs.Operations.{sub_value, sum_least, div_value}
+use Rattle.rounding.proofs.Operations.{div_value}
 use Rattle.rounding.proofs.Read.{convert_value}
-use Rattle.rounding.proofs.Sum.{sum_less}
-use Rattle.pcm.specs.WholeNumbers.{full, signed, whole, level, sample}
-use Rattle.pcm.specs.Statement.{ExactSamples}
+use Rattle.pcm.specs.WholeNumbers.{size, full, signed, whole, level, sample}
+use Rattle.pcm.specs.Statement.{IsQuotient, ExactSamples}
 use Rattle.pcm.specs.declared.Bits.{Bits}
 use Rattle.pcm.specs.declared.Bits.TheVariants as bits
 
@@ -47,10 +45,6 @@ quotient s n k x y small h v w =
     div_value binary64 x y s false n 1 (2 ^ k) 1 (lit< tt) (pow_pos k) v w ∙ rw (own_sign s, mul-one, mul-one) refl in
     ap (to_bits binary32) (ap (convert binary32) e ∙ convert_value binary32 (round binary64 s n (2 ^ k)) s n (2 ^ k) (pow_pos k) (exact binary64 s n k small h))
 
-pub exact_samples : ExactSamples
-unfolding level
-exact_samples = record { plus = λ n k small h. exact binary32 false n k small h; minus = λ n k small h. exact binary32 true (suc n) k small h }
-
 -- ---- the size of a whole number
 abbrev size_of : ℤ → ℕ
 size_of (pos n) = n
@@ -74,37 +68,12 @@ signed_size h v small l = go (ltb v h)
 scale : (k : ℕ) → k ≤ 31 → HasValue (of_int binary64 (pos (2 ^ k))) false (2 ^ k) 1
 scale k h = whole_exact binary64 (2 ^ k) (le_trans (pow-le-pow_right (lit< tt) h) (lit≤ tt))
 
--- ---- the difference of two whole numbers
-differ : (v w : ℕ) (t : Bool) → leb w v ≡ t → sum binary64 false v true w 1 ≡ of_int binary64 (cond t (pos (v - w)) (negsuc (w - suc v)))
-unfolding of_int
-differ v w true e = sum_least binary64 v w 1 (leb-true w v e)
-differ v w false e =
-    let less : v < w = leb-false w v e in
-    let size : w - v ≡ suc (w - suc v) = omega arith in
-    sum_less binary64 false true v w 1 refl less ∙ ap (λ (n : ℕ). round binary64 true n 1) size
-
-pub lowered : (v w : ℕ) → v < 2 ^ 32 → w ≤ 2 ^ 33 → sub binary64 (of_int binary64 (pos v)) (of_int binary64 (pos w)) ≡ of_int binary64 (minus v w)
-lowered v w small h =
-    sub_value binary64 (of_int binary64 (pos v)) (of_int binary64 (pos w)) false false v 1 w 1 (lit< tt) (lit< tt)
-    (whole_exact binary64 v (omega arith)) (whole_exact binary64 w (omega arith))
-    ∙ rw (mul-one, mul-one) (differ v w (leb w v) refl)
-
--- less nothing
-lowered_none : (v : ℕ) → v < 2 ^ 32 → sub binary64 (of_int binary64 (pos v)) (of_int binary64 (pos 0)) ≡ of_int binary64 (pos v)
-lowered_none v small =
-    let same : v - 0 ≡ v = omega arith in
-    lowered v 0 small (lit≤ tt) ∙ rw (le-leb 0 v (omega arith)) (ap (λ (n : ℕ). of_int binary64 (pos n)) same)
-
--- less twice full scale from there on, the test being 1 or 0
-from_full : (h v : ℕ) (t : Bool) → v < 2 ^ 32 → h < 2 ^ 32 → leb h v ≡ t
-    → sub binary64 (of_int binary64 (pos v)) (of_int binary64 (pos (2 * h * from_bool t))) ≡ of_int binary64 (signed h v)
-unfolding signed
-from_full h v true small below e = rw (le-ltb v h (leb-true h v e), mul-one) (lowered v (2 * h) small (omega arith))
-from_full h v false small below e = rw (lt-ltb v h (leb-false h v e), mul-zero) (lowered_none v small)
-
-pub past_full : (h v p w : ℕ) (x : Float) → v < 2 ^ 32 → h < 2 ^ 32 → p ≡ from_bool (leb h v) → w ≡ h → x ≡ of_int binary64 (pos v)
-    → sub binary64 x (of_int binary64 (pos (2 * w * p))) ≡ of_int binary64 (signed h v)
-past_full h v p w x small below e f g = rw (e, f, g) (from_full h v (leb h v) small below refl)
+sizes : (b : Bits) (v : ℕ) → v < 2 ^ 32 → size_of (whole b v) ≤ 2 ^ 32
+unfolding whole
+sizes bits.Eight v h = minus_size v 128 h (lit≤ tt)
+sizes bits.Sixteen v h = signed_size 32768 v h (lit≤ tt)
+sizes bits.TwentyFour v h = signed_size 8388608 v h (lit≤ tt)
+sizes bits.ThirtyTwo v h = signed_size 2147483648 v h (lit≤ tt)
 
 -- ---- of a whole number of 32 digits at most the quotient is the sample
 leveled : (z : ℤ) (k : ℕ) → size_of z ≤ 2 ^ 32 → k ≤ 31 → narrow (div binary64 (of_int binary64 z) (of_int binary64 (pos (2 ^ k)))) ≡ to_bits binary32 (level z (2 ^ k))
@@ -115,7 +84,54 @@ leveled (negsuc n) k small h =
 
 pub kept : (b : Bits) (v : ℕ) → v < 2 ^ 32 → narrow (div binary64 (of_int binary64 (whole b v)) (of_int binary64 (pos (full b)))) ≡ sample b v
 unfolding whole sample
-kept bits.Eight v h = leveled (minus v 128) 7 (minus_size v 128 h (lit≤ tt)) (lit≤ tt)
-kept bits.Sixteen v h = leveled (signed 32768 v) 15 (signed_size 32768 v h (lit≤ tt)) (lit≤ tt)
-kept bits.TwentyFour v h = leveled (signed 8388608 v) 23 (signed_size 8388608 v h (lit≤ tt)) (lit≤ tt)
-kept bits.ThirtyTwo v h = leveled (signed 2147483648 v) 31 (signed_size 2147483648 v h (lit≤ tt)) (lit≤ tt)
+kept bits.Eight v h = leveled (minus v 128) 7 (sizes bits.Eight v h) (lit≤ tt)
+kept bits.Sixteen v h = leveled (signed 32768 v) 15 (sizes bits.Sixteen v h) (lit≤ tt)
+kept bits.TwentyFour v h = leveled (signed 8388608 v) 23 (sizes bits.TwentyFour v h) (lit≤ tt)
+kept bits.ThirtyTwo v h = leveled (signed 2147483648 v) 31 (sizes bits.ThirtyTwo v h) (lit≤ tt)
+
+counts : (z : ℤ) → size_of z ≤ 2 ^ 32 → T (in_float binary64 z)
+unfolding in_float
+counts (pos n) h = le→leb n (2 ^ 53) (omega arith)
+counts (negsuc n) h = lt→ltb n (2 ^ 53) (omega arith)
+
+pub counted : (b : Bits) (v : ℕ) → v < 2 ^ 32 → T (in_float binary64 (whole b v))
+counted b v h = counts (whole b v) (sizes b v h)
+
+-- ---- of up to 24 bits the sample is exact
+minus_within : (h v : ℕ) → v < 2 * h → size_of (minus v h) ≤ h
+minus_within h v below = go (leb h v) refl
+  where
+    go : (t : Bool) → leb h v ≡ t → size_of (cond t (pos (v - h)) (negsuc (h - suc v))) ≤ h
+    go true e = omega arith
+    go false e = omega (arith, leb-false h v e)
+
+signed_within : (h v : ℕ) → v < 2 * h → size_of (signed h v) ≤ h
+unfolding signed
+signed_within h v below = go (ltb v h) refl
+  where
+    past : (t : Bool) → leb (2 * h) v ≡ t → h ≤ v → size_of (cond t (pos (v - 2 * h)) (negsuc (2 * h - suc v))) ≤ h
+    past true e l = omega arith
+    past false e l = omega arith
+
+    go : (t : Bool) → ltb v h ≡ t → size_of (cond t (pos v) (minus v (2 * h))) ≤ h
+    go true e = omega (arith, ltb-true v h e)
+    go false e = past (leb (2 * h) v) refl (ltb-false v h e)
+
+exact_level : (z : ℤ) (k : ℕ) → size_of z < 2 ^ 24 → k ≤ 31 → IsQuotient (level z (2 ^ k)) z (2 ^ k)
+unfolding level
+exact_level (pos n) k small h = exact binary32 false n k small h
+exact_level (negsuc n) k small h = exact binary32 true (suc n) k small h
+
+of_word : (b : Bits) (word : ℕ) → size b ≤ 3 → word < 2 ^ (8 * size b) → IsQuotient (level (whole b word) (full b)) (whole b word) (full b)
+unfolding whole
+of_word bits.Eight v few h = exact_level (minus v 128) 7 (lt_of_le_of_lt (minus_within 128 v h) (lit< tt)) (lit≤ tt)
+of_word bits.Sixteen v few h = exact_level (signed 32768 v) 15 (lt_of_le_of_lt (signed_within 32768 v h) (lit< tt)) (lit≤ tt)
+of_word bits.TwentyFour v few h = exact_level (signed 8388608 v) 23 (lt_of_le_of_lt (signed_within 8388608 v h) (lit< tt)) (lit≤ tt)
+of_word bits.ThirtyTwo v few h = absurd (not_three few)
+  where
+    not_three : 4 ≤ 3 → ⊥
+    not_three h = omega arith
+
+pub exact_samples : ExactSamples
+unfolding whole signed
+exact_samples = record { exact = of_word; greatest = of_word bits.TwentyFour 0x7F_FFFF (lit≤ tt) (lit< tt); least = of_word bits.TwentyFour 0x80_0000 (lit≤ tt) (lit< tt) }
