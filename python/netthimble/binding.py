@@ -107,7 +107,7 @@ class Count(ctypes.Structure):
 
 # ---- the calls: what each answers, and what it is handed
 
-_WORDS, _BYTES, _PLAYER = POINTER(c_uint32), POINTER(c_uint8), POINTER(PlayerRecord)
+_WORDS, _BYTES, _DOUBLES, _PLAYER = POINTER(c_uint32), POINTER(c_uint8), POINTER(c_double), POINTER(PlayerRecord)
 _RENDERED: List[Any] = [_PLAYER, _WORDS, c_size_t, _WORDS, c_size_t, c_double, c_float]
 
 # These take microseconds, and keep Python's interpreter meanwhile: a thread that let go of it for a block, as ctypes does, might get it
@@ -142,6 +142,8 @@ LONG: Dict[str, Tuple[Any, List[Any]]] = {
     "clip_with_onset": (ShapedWithOnset, [_BYTES, c_size_t]),
     "clip_frames_with_onset": (c_uint32, [_BYTES, c_size_t, _WORDS, c_size_t]),
     "clip_write": (c_uint32, [Shape, c_uint32, _WORDS, c_size_t, _BYTES, c_size_t]),
+    **{f"pcm_{bits}": (c_uint32, [_BYTES, c_size_t, c_size_t, c_size_t, _WORDS, c_size_t]) for bits in (8, 16, 24, 32)},
+    "narrow": (c_uint32, [_DOUBLES, c_size_t, _WORDS, c_size_t]),
 }
 
 

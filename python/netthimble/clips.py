@@ -99,8 +99,8 @@ class Clip:
         call = "Clip.from_wav"
         named = path_of(call, "path", path)
         check_floats()
-        rate, rows = _wav.rows_of(named)
-        return cls.__new__(cls)._make(call, rate, rows, onset, "")
+        rate, channels, width, packed = _wav.frames_of(named)
+        return cls.__new__(cls)._make(call, rate, _samples.channels_of(call, packed, 8 * width, channels), onset, "")
 
     def _make(self: _C, call: str, sample_rate: Any, rows: _samples.Rows, onset: Any, other_layout: str) -> _C:
         """This clip, of rows of words. Where `other_layout` is told, it is turned down if that is likely what it has."""

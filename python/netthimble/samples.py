@@ -1,15 +1,17 @@
 """Samples in the forms that callers have them in, as rows of f32 words: a row of bytes for each channel. Nothing is taken whose loudness or
 shape would be a guess: whole numbers and bytes have ways in of their own, and so have frames by channels, and bit patterns.
 
-NumPy is used where the caller hands in its arrays, or what becomes one (a tensor, a column of a table); nothing needs it."""
+Whole numbers and doubles become f32 by a call of the library. NumPy is used where the caller hands in its arrays, or what becomes one (a
+tensor, a column of a table); nothing needs it."""
 from __future__ import annotations
 
 import numbers
 import sys
 from array import array
+from ctypes import c_double, c_uint8, c_uint32
 from typing import Any, List, Optional, Sequence, Tuple
 
-from . import wav
+from .binding import CALL, check
 from .errors import Refused, shown
 
 CHANNELS = 32  # the most channels
@@ -20,8 +22,9 @@ FROM_ROWS = "for one row a channel there is Clip(sample_rate, channels)"
 SHIFTED = "these are likely samples shifted up, as soundfile's int32: bits=32; 16-bit values in 24 go in as bits=16"
 KINDS = {"f": {"f", "d"}, "b": {"B", "c"}, "i": set("bhilq"), "u": set("HILQ")}  # of memory's forms, as Python's struct names them
 WIDTHS = {8: "B", 16: "h", 24: "i", 32: "i"}  # the arrays that hold samples of so many bits
+SIGNS = bytes(0xFF if byte > 0x7F else 0 for byte in range(256))  # by a number's highest byte, the byte above it in two's complement
 
-Rows = List[memoryview]  # of f32, a row for each channel; it need not lie in order
+Rows = List[memoryview]  # of f32 words, a row for each channel
 
 
 class Data:
@@ -120,11 +123,10 @@ def float_row(call: str, name: str, given: Any) -> memoryview:
         if data.kind != "f":
             raise _not_floats(call, name, data)
         values = data.flat()
-        numpy = sys.modules["numpy"] if data.array is not None else wav.numpy_for(values.nbytes)
-        if data.array is None and values.format == "f":
-            words = values.tobytes()
+        if data.array is not None:
+            words = _narrowed(sys.modules["numpy"], values)
         else:
-            words = array("f", values).tobytes() if numpy is None else _narrowed(numpy, values)
+            words = values.tobytes() if values.format == "f" else _narrow(call, values.tobytes())
     else:
         values = listed(call, name, given)
         for kind in set(map(type, values)):
@@ -143,6 +145,13 @@ def _narrowed(numpy: Any, given: Any) -> bytes:
     with numpy.errstate(over="ignore", under="ignore", invalid="ignore"):
         made = numpy.ascontiguousarray(given, dtype="<f4").tobytes()
     return bytes(made)
+
+
+def _narrow(call: str, doubles: bytes) -> bytes:
+    values = (c_double * (len(doubles) // 8)).from_buffer_copy(doubles)
+    words = (c_uint32 * len(values))()
+    check(call, CALL["narrow"](values, len(values), words, len(words)))
+    return bytes(words)
 
 
 def _is_float(kind: type) -> bool:
@@ -259,62 +268,71 @@ def pcm_rows(call: str, given: Any, bits: int, channels: Optional[int]) -> Rows:
         channels = 1
     if not 1 <= channels <= CHANNELS:
         raise Refused(call, 1, f"channels={channels}")
-    floats = _pcm_floats(call, data, given, bits)
-    if len(floats) % channels:
-        raise ValueError(f"{call}: {len(floats)} samples are not whole frames of {channels} channels")
-    return [floats[c::channels] for c in range(channels)]
+    packed = _packed(call, data, given, bits)
+    count = len(packed) // (bits // 8)
+    if count % channels:
+        raise ValueError(f"{call}: {count} samples are not whole frames of {channels} channels")
+    return channels_of(call, packed, bits, channels)
 
 
-def _pcm_floats(call: str, data: Data, given: Any, bits: int) -> memoryview:
+def channels_of(call: str, packed: bytes, bits: int, channels: int) -> Rows:
+    """A row for each channel of interleaved whole numbers, packed, the lowest byte of each first (docs/REFERENCE.md, 'Whole numbers')."""
+    lent, frames = (c_uint8 * len(packed)).from_buffer_copy(packed), len(packed) // (bits // 8 * channels)
+    rows = []
+    for number in range(channels):
+        words = (c_uint32 * frames)()
+        check(call, CALL[f"pcm_{bits}"](lent, len(lent), channels, number, words, frames), f"{channels} channels of {frames} frames")
+        rows.append(memoryview(words))
+    return rows
+
+
+def _packed(call: str, data: Data, given: Any, bits: int) -> bytes:
+    """The bytes of whole numbers, as many for each as its bits need."""
     if not data:
-        values = _in_range(call, listed(call, "data", given), bits)
-        return wav.unsigned(values) if bits == 8 else wav.scaled(array("i", values), bits)
+        words = array(WIDTHS[bits], _in_range(call, listed(call, "data", given), bits)).tobytes()
+        return _of_24_bits(call, words) if bits == 24 else words
     flat: bytes = data.flat().tobytes()
     if data.kind == "b" and (bits == 8 or len(data.shape) == 1):
         if len(flat) % (bits // 8):
             raise ValueError(f"{call}: {len(flat)} bytes are not whole samples of {bits} bits")
-        return wav.unsigned(flat) if bits == 8 else wav.packed(flat, bits // 8)
-    wanted = array(WIDTHS[bits])
-    if data.kind != "i" or data.width != wanted.itemsize or bits == 8:
+        return flat
+    if data.kind != "i" or data.width != array(WIDTHS[bits]).itemsize or bits == 8:
         raise TypeError(f"{call}: data of {bits} bits is packed bytes, or {_wanted(bits)}, not {data.name}")
-    wanted.frombytes(flat if data.array is None else data.array.astype(f"<i{data.width}").tobytes())
-    if bits == 24:
-        _in_range(call, wanted, bits)
-    return wav.scaled(wanted, bits)
+    words = flat if data.array is None else data.array.astype(f"<i{data.width}").tobytes()
+    return _of_24_bits(call, words) if bits == 24 else words
 
 
 def _wanted(bits: int) -> str:
     return {8: "unsigned 8-bit numbers", 16: "signed 16-bit numbers (int16, array('h'))"}.get(bits, "signed 32-bit numbers (int32, array('i'))")
 
 
-def _in_range(call: str, values: Any, bits: int) -> Any:
-    """The whole numbers, all of which are ones of so many bits."""
+def _in_range(call: str, values: Sequence[Any], bits: int) -> Sequence[int]:
+    """The whole numbers of a list, all of which are ones of so many bits."""
+    kinds = set(map(type, values))
+    bad = {kind for kind in kinds if not issubclass(kind, numbers.Integral) or issubclass(kind, bool)}
+    if bad:
+        at = next(n for n, value in enumerate(values) if type(value) in bad)
+        raise TypeError(f"{call}: data[{at}] must be a whole number, not {type(values[at]).__name__} {shown(values[at])}")
+    made = values if kinds <= {int} else [int(value) for value in values]
     low, high = (0, 255) if bits == 8 else (-(2 ** (bits - 1)), 2 ** (bits - 1) - 1)
+    if made and (min(made) < low or max(made) > high):
+        raise _past(call, made, bits, low, high)
+    return made
+
+
+def _past(call: str, values: Sequence[int], bits: int, low: int, high: int) -> ValueError:
     hint = f"; {SHIFTED}" if bits == 24 else ""
-    if not isinstance(values, array):
-        for at, value in enumerate(values):
-            if not isinstance(value, numbers.Integral) or isinstance(value, bool):
-                raise TypeError(f"{call}: data[{at}] must be a whole number, not {type(value).__name__} {shown(value)}")
-        values = [int(value) for value in values]
-    if not len(values):
-        return values
-    least, most = _ends(values)
-    if least < low or most > high:
-        raise ValueError(f"{call}: data has {shown(least)} to {shown(most)}; samples of {bits} bits are {low} to {high}{hint}")
-    if bits == 24 and (least or most) and _low_bytes_are_zero(array("i", values)):
-        raise ValueError(f"{call}: data has {least} to {most}, all of them multiples of 256{hint}")
-    return values
+    return ValueError(f"{call}: data has {shown(min(values))} to {shown(max(values))}; samples of {bits} bits are {low} to {high}{hint}")
 
 
-def _ends(values: Any) -> Tuple[int, int]:
-    """The least and the greatest of whole numbers."""
-    numpy = wav.numpy_for(values.itemsize * len(values)) if isinstance(values, array) else None
-    if numpy is None:
-        return min(values), max(values)
-    read = numpy.frombuffer(values, f"i{values.itemsize}")
-    return int(read.min()), int(read.max())
-
-
-def _low_bytes_are_zero(values: "array[int]") -> bool:
-    low = values.tobytes()[:: values.itemsize]
-    return low.count(0) == len(low)
+def _of_24_bits(call: str, words: bytes) -> bytes:
+    """The lower three bytes of each number of 32 bits, all of which are ones of 24 bits, and likely meant so."""
+    low, middle, high, top = (words[byte::4] for byte in range(4))
+    if top != high.translate(SIGNS):
+        raise _past(call, array("i", words), 24, -(2**23), 2**23 - 1)
+    if low.count(0) == len(low) and words.count(0) < len(words):
+        values = array("i", words)
+        raise ValueError(f"{call}: data has {min(values)} to {max(values)}, all of them multiples of 256; {SHIFTED}")
+    packed = bytearray(3 * len(low))
+    packed[0::3], packed[1::3], packed[2::3] = low, middle, high
+    return bytes(packed)

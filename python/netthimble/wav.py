@@ -1,92 +1,53 @@
-"""Samples that are whole numbers, and WAV files of them, as floats from -1 to 1. This module knows nothing of the library: the package
-reads by it, and so does the tool that makes clip files. The chunks are read here, so that every Python says the same of a file."""
+"""WAV files of whole numbers. This module knows nothing of the library: the package has the library make samples of what is read here, and the
+tool that makes clip files, which are short, has `read` make floats from -1 to 1 of it. The chunks are read here, so that every Python says the
+same of a file."""
 from __future__ import annotations
 
-import importlib
 import os
 import struct
-import sys
 from array import array
-from typing import IO, TYPE_CHECKING, Any, Iterator, List, Optional, Tuple, Union
+from typing import IO, TYPE_CHECKING, Iterator, List, Optional, Tuple, Union
 
 if TYPE_CHECKING:
     Path = Union[str, "os.PathLike[str]"]
 
 PLAIN, FLOATS, EXTENSIBLE = 1, 3, 0xFFFE  # what a WAV file says of its samples
-LARGE = 1 << 18  # from so many bytes on it is worth a tenth of a second to import NumPy
-PART = 1 << 13  # numbers that are worked on at a time, without NumPy
+PART = 1 << 13  # numbers that are worked on at a time
 
 
-def numpy_for(size: int) -> Any:
-    """NumPy, where it is installed, and imported before or worth it for so many bytes; else None."""
-    if "numpy" in sys.modules or size >= LARGE:
-        try:
-            return importlib.import_module("numpy")
-        except ImportError:
-            pass
-    return None
-
-
-# ---- whole numbers as floats
-
-
-def scale(bits: int) -> float:
-    """What a whole number of so many bits is multiplied by: 2^(bits-1) is full scale."""
-    return 2.0 ** (1 - bits)
-
-
-def scaled(numbers: Any, bits: int) -> memoryview:
-    """Signed whole numbers of so many bits (an array of them, or memory in order) times their scale, each rounded once, to the nearest f32: up to
-    24 bits exactly. As the memory of f32."""
-    view = memoryview(numbers)
-    numpy, floats = numpy_for(view.nbytes) if view.nbytes else None, array("f")
-    if numpy is not None:
-        made = numpy.frombuffer(view, dtype=f"i{view.itemsize}").astype("f4")
-        made *= numpy.float32(scale(bits))  # a power of two: exact
-        return memoryview(made)
-    factor, held = scale(bits), array(view.format, view.tobytes())
-    for at in range(0, len(held), PART):
-        floats.fromlist([value * factor for value in held[at : at + PART]])
-    return memoryview(floats)
-
-
-def unsigned(data: Any) -> memoryview:
-    """Bytes from 0 to 255 as floats: 128 is 0."""
-    levels = [(value - 128) / 128 for value in range(256)]
-    return memoryview(array("f", map(levels.__getitem__, bytes(data))))
-
-
-def packed(data: bytes, width: int) -> memoryview:
-    """Signed samples of 2, 3 or 4 bytes each, the lowest byte first, as floats from -1 to 1: the memory of f32."""
-    if width == 3:  # as the upper bytes of four: the value is 256 times as large, and so is full scale
-        wide = bytearray(len(data) // 3 * 4)
-        for byte in range(3):
-            wide[byte + 1 :: 4] = data[byte::3]
-        data, width = wide, 4
-    return scaled(memoryview(data).cast("h" if width == 2 else "i") if data else array("h"), 8 * width)
-
-
-# ---- WAV files
+# ---- without the library
 
 
 def read(path: "Path", first: int = 0, count: Optional[int] = None) -> "Tuple[int, List[array[float]]]":
     """The sample rate of a WAV file, and an array of floats from -1 to 1 for each channel: its frames from `first` on, `count` of them or as
     many as there are. ValueError says why a file cannot be read so."""
-    rate, rows = rows_of(path, first, count)
-    return rate, [array("f", row.tobytes()) for row in rows]
+    rate, channels, width, data = frames_of(path, first, count)
+    if width == 3:  # as the upper bytes of four: the value is 256 times as large, and so is full scale
+        wide = bytearray(len(data) // 3 * 4)
+        for byte in range(3):
+            wide[byte + 1 :: 4] = data[byte::3]
+        data, width = bytes(wide), 4
+    numbers, floats = array("h" if width == 2 else "i", data), array("f")
+    scale = 2.0 ** (1 - 8 * width)  # a power of two: the product is exact, and rounded once, to the nearest f32
+    for at in range(0, len(numbers), PART):
+        floats.fromlist([value * scale for value in numbers[at : at + PART]])
+    return rate, [floats[c::channels] for c in range(channels)]
 
 
-def rows_of(path: "Path", first: int = 0, count: Optional[int] = None) -> Tuple[int, List[memoryview]]:
-    """As `read`, with each channel as memory of f32, which need not lie in order."""
+# ---- WAV files
+
+
+def frames_of(path: "Path", first: int = 0, count: Optional[int] = None) -> Tuple[int, int, int, bytes]:
+    """The sample rate of a WAV file, its channels, the bytes of a sample, and the bytes of its frames from `first` on: `count` of them or as many
+    as there are. ValueError says why a file cannot be read so."""
     with open(path, "rb") as file:
         try:
             channels, rate, width = _format(_chunk(file, b"fmt "))
-            samples = packed(_values(file, channels * width, first, count), width)
+            return rate, channels, width, _values(file, channels * width, first, count)
         except ValueError as wrong:
             raise ValueError(f"{os.fspath(path)}: {wrong}") from None
         except OSError as wrong:  # of reading, which does not name the file
             raise OSError(wrong.errno, wrong.strerror, os.fspath(path)) from None
-    return rate, [samples[c::channels] for c in range(channels)]
 
 
 def _chunks(file: IO[bytes]) -> Iterator[Tuple[bytes, int]]:
