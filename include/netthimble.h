@@ -63,9 +63,10 @@ extern "C" {
  * the order that stands at the call. */
 enum {
     NETTHIMBLE_ACCEPTED = 0,
-    NETTHIMBLE_SHAPE = 1,    /* channels not 1..32, frames over 16,777,216, or the samples' length not channels x frames (without a clip not 0) */
+    NETTHIMBLE_SHAPE = 1,    /* channels not 1..32, frames over 16,777,216, or the samples' length not channels x frames (without a clip not 0);
+                                whole numbers: bytes that are not whole frames */
     NETTHIMBLE_RATE = 2,     /* a sample rate outside 3,000..768,000, or NaN */
-    NETTHIMBLE_CHANNEL = 3,  /* copy: a channel number not below the count */
+    NETTHIMBLE_CHANNEL = 3,  /* copy, whole numbers: a channel number not below the count */
     NETTHIMBLE_UNLIKE = 4,   /* extend: rates or channel counts differ */
     NETTHIMBLE_POINT = 5,    /* split: the point is above the frame count */
     NETTHIMBLE_SINGLE = 6,   /* retired: no call gives it, and no other refusal takes its number */
@@ -425,6 +426,23 @@ netthimble_shaped netthimble_convert(netthimble_shape shape, const uint32_t *sam
  * buffer's (the difference rounded to float). A conversion uses no other of them. Refused as they are: 1, 2, 7; and 8. */
 netthimble_shaped netthimble_converted_shape_with(netthimble_shape shape, size_t len, float sample_rate, netthimble_tolerances tolerances);
 netthimble_shaped netthimble_convert_with(netthimble_shape shape, const uint32_t *samples, size_t samples_len, float sample_rate, netthimble_tolerances tolerances, uint32_t *out, size_t out_len);
+
+/* ---- whole numbers: samples of 8, 16, 24 or 32 bits, as WAV files and devices have them, as f32 bits */
+
+/* Stores the channel `number` of `channels` interleaved ones in `out`, which is exactly as long as the frames: bytes_len / (channels x bytes of a
+ * sample). A sample's bytes stand one behind another, the lowest first. Of 8 bits the byte less 128 is the whole number; the others are in two's
+ * complement, those of 24 bits packed in three bytes. Each is divided by 2^(bits - 1), so full scale is -1 to 1: that is exact up to 24 bits, and
+ * of 32 bits rounded once, to the nearest float. Numbers in this machine's memory may be handed in by a cast (int16_t * for 16 bits, int32_t * for
+ * 32). Returns the refusal's number, 0 for none. Refused: 1 (channels not 1..32, bytes that are not whole frames of them, or over 16,777,216
+ * frames), 3, 8; `out` is then untouched. */
+uint32_t netthimble_pcm_8(const uint8_t *bytes, size_t bytes_len, size_t channels, size_t number, uint32_t *out, size_t out_len);
+uint32_t netthimble_pcm_16(const uint8_t *bytes, size_t bytes_len, size_t channels, size_t number, uint32_t *out, size_t out_len);
+uint32_t netthimble_pcm_24(const uint8_t *bytes, size_t bytes_len, size_t channels, size_t number, uint32_t *out, size_t out_len);
+uint32_t netthimble_pcm_32(const uint8_t *bytes, size_t bytes_len, size_t channels, size_t number, uint32_t *out, size_t out_len);
+
+/* Stores doubles, each rounded to the nearest float, ties to even, as f32 bits in `out`, which is as long; a NaN becomes 7FC00000. Returns the
+ * refusal's number, 0 for none. Refused: 8; `out` is then untouched. */
+uint32_t netthimble_narrow(const double *values, size_t values_len, uint32_t *out, size_t out_len);
 
 /* ---- a sample's value and its bits */
 

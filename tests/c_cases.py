@@ -24,7 +24,7 @@ STATIC = [str(C / "libnetthimble.a"), "-lm"]
 SHARED = [f"-L{C}", "-lnetthimble", f"-Wl,-rpath,{C}", "-lm"]
 SOURCES = [
     *(f"examples/c/{name}.c" for name in ("play", "ears")),
-    *(f"tests/c/{name}.c" for name in ("cases", "tolerances", "convert", "factors", "trial", "replay", "stack")),
+    *(f"tests/c/{name}.c" for name in ("cases", "tolerances", "convert", "factors", "trial", "replay", "stack", "pcm")),
 ]
 RING = "examples/c/ring.c"  # has atomics, so C11 alone
 RANDOM_RUNS = 60
@@ -137,7 +137,7 @@ def main():
             both_ears(name, made["ears"])
             if "ring" in made:
                 beside_audio(name, made["ring"])
-            for test, words in (("cases", []), ("tolerances", []), ("stack", []), ("convert", [seed])):
+            for test, words in (("cases", []), ("tolerances", []), ("stack", []), ("pcm", []), ("convert", [seed])):
                 done = run([made[test], *words])
                 check(f"{name}, {test}.c", done.returncode == 0, done.stdout.decode()[:300])
             check(f"{name}, factors of cents", run([made["factors"]]).stdout == factors, "differ from the rule of the table")

@@ -9,7 +9,7 @@ import numbers
 import sys
 from array import array
 from ctypes import c_double, c_uint8, c_uint32
-from typing import Any, List, Optional, Sequence, Tuple
+from typing import Any, List, Optional, Sequence, Tuple, Union
 
 from .binding import CALL, check
 from .errors import Refused, shown
@@ -25,6 +25,7 @@ WIDTHS = {8: "B", 16: "h", 24: "i", 32: "i"}  # the arrays that hold samples of 
 SIGNS = bytes(0xFF if byte > 0x7F else 0 for byte in range(256))  # by a number's highest byte, the byte above it in two's complement
 
 Rows = List[memoryview]  # of f32 words, a row for each channel
+Packed = Union[bytes, bytearray]  # whole numbers, the lowest byte of each first
 
 
 class Data:
@@ -126,7 +127,7 @@ def float_row(call: str, name: str, given: Any) -> memoryview:
         if data.array is not None:
             words = _narrowed(sys.modules["numpy"], values)
         else:
-            words = values.tobytes() if values.format == "f" else _narrow(call, values.tobytes())
+            words = values.tobytes() if values.format == "f" else _narrow(call, values)
     else:
         values = listed(call, name, given)
         for kind in set(map(type, values)):
@@ -147,8 +148,8 @@ def _narrowed(numpy: Any, given: Any) -> bytes:
     return bytes(made)
 
 
-def _narrow(call: str, doubles: bytes) -> bytes:
-    values = (c_double * (len(doubles) // 8)).from_buffer_copy(doubles)
+def _narrow(call: str, doubles: memoryview) -> bytes:
+    values = (c_double * len(doubles)).from_buffer_copy(doubles if doubles.c_contiguous else doubles.tobytes())
     words = (c_uint32 * len(values))()
     check(call, CALL["narrow"](values, len(values), words, len(words)))
     return bytes(words)
@@ -275,7 +276,7 @@ def pcm_rows(call: str, given: Any, bits: int, channels: Optional[int]) -> Rows:
     return channels_of(call, packed, bits, channels)
 
 
-def channels_of(call: str, packed: bytes, bits: int, channels: int) -> Rows:
+def channels_of(call: str, packed: Packed, bits: int, channels: int) -> Rows:
     """A row for each channel of interleaved whole numbers, packed, the lowest byte of each first (docs/REFERENCE.md, 'Whole numbers')."""
     lent, frames = (c_uint8 * len(packed)).from_buffer_copy(packed), len(packed) // (bits // 8 * channels)
     rows = []
@@ -286,7 +287,7 @@ def channels_of(call: str, packed: bytes, bits: int, channels: int) -> Rows:
     return rows
 
 
-def _packed(call: str, data: Data, given: Any, bits: int) -> bytes:
+def _packed(call: str, data: Data, given: Any, bits: int) -> Packed:
     """The bytes of whole numbers, as many for each as its bits need."""
     if not data:
         words = array(WIDTHS[bits], _in_range(call, listed(call, "data", given), bits)).tobytes()
@@ -325,14 +326,14 @@ def _past(call: str, values: Sequence[int], bits: int, low: int, high: int) -> V
     return ValueError(f"{call}: data has {shown(min(values))} to {shown(max(values))}; samples of {bits} bits are {low} to {high}{hint}")
 
 
-def _of_24_bits(call: str, words: bytes) -> bytes:
+def _of_24_bits(call: str, words: bytes) -> Packed:
     """The lower three bytes of each number of 32 bits, all of which are ones of 24 bits, and likely meant so."""
     low, middle, high, top = (words[byte::4] for byte in range(4))
     if top != high.translate(SIGNS):
         raise _past(call, array("i", words), 24, -(2**23), 2**23 - 1)
-    if low.count(0) == len(low) and words.count(0) < len(words):
+    if not low.lstrip(b"\0") and words.lstrip(b"\0"):
         values = array("i", words)
         raise ValueError(f"{call}: data has {min(values)} to {max(values)}, all of them multiples of 256; {SHIFTED}")
     packed = bytearray(3 * len(low))
     packed[0::3], packed[1::3], packed[2::3] = low, middle, high
-    return bytes(packed)
+    return packed

@@ -107,6 +107,15 @@ static void conversions(void) {
     CHECK(netthimble_convert_with(s, clip, CLIP, 48000.0f, tolerances, other, len).refusal == 0);
 }
 
+static void whole_numbers(void) {
+    static const double values[] = {0.1, -1e300};
+    CHECK(netthimble_pcm_8(file, 12, 2, 1, other, 6) == 0);
+    CHECK(netthimble_pcm_16(file, 12, 2, 1, other, 3) == 0);
+    CHECK(netthimble_pcm_24(file, 12, 2, 1, other, 2) == 0);
+    CHECK(netthimble_pcm_32(file, 16, 2, 1, other, 2) == 0);
+    CHECK(netthimble_narrow(values, 2, other, 2) == 0);
+}
+
 /* ---- the painted stack */
 
 static void (*made)(void);
@@ -141,7 +150,7 @@ int main(void) {
         void (*call)(void);
     } calls[] = {{"nothing", nothing}, {"sizes", sizes}, {"made", makes}, {"made, lent", makes_lent}, {"messages", tells},
                  {"messages and buffer, lent", tells_lent}, {"block", block}, {"block in cents", block_in_cents}, {"preview", preview},
-                 {"preview in cents", preview_in_cents}, {"clip file", clips}, {"copy, extend, split", buffers}, {"convert", conversions}};
+                 {"preview in cents", preview_in_cents}, {"clip file", clips}, {"copy, extend, split", buffers}, {"convert", conversions}, {"whole numbers", whole_numbers}};
     for (size_t i = 0; i < CLIP; i++) clip[i] = netthimble_bits((float)(i % 101) / 64.0f - 0.5f);
     options = netthimble_default_options();
     tolerances = options.tolerances;

@@ -1,7 +1,8 @@
 -- Whole numbers as f64, and their quotient by full scale as f32: exact as an f64, so rounded once. Assumes nothing.
-use Rattle.std.proofs.Common.{◌≡◌, ℕ, suc, ◌+◌, ◌-◌, ◌*◌, ◌^◌, ◌<◌, ◌≤◌, Bool, true, false, cond, leb, ltb, ℤ, pos, negsuc, sym, refl, ap, ◌∙◌, arith, mul-one, mul_assoc, pow_pos, pow-add, lt_of_lt_of_le, le_trans, mul-le-mul_left, mul-lt-mul_of_pos_right}
+use Rattle.std.proofs.Common.{◌≡◌, ℕ, suc, ◌+◌, ◌-◌, ◌*◌, ◌^◌, ◌<◌, ◌≤◌, Bool, true, false, cond, leb, ltb, ℤ, pos, negsuc, sym, refl, ap, ◌∙◌, arith, mul-one, mul_assoc, pow_pos, pow-add, lt_of_lt_of_le, le_trans, mul-le-mul_left, mul-lt-mul_of_pos_right, mul-zero}
+use Rattle.std.specs.Int.{from_bool}
 use Rattle.std.proofs.Math.Nat.{pow-le-pow_right}
-use borrow.Author.Tests.{leb-true, leb-false}
+use borrow.Author.Tests.{leb-true, leb-false, le-leb, le-ltb, lt-ltb}
 use lib.Dec.{lit<, lit≤}
 use lib.Ieee.{Float, Format, binary32, binary64, prec, emax, low, unlike, minus, round, sum, sub, div, of_int, to_bits}
 use lib.Ieee.Exact.{HasValue, round_exact}
@@ -62,13 +63,13 @@ minus_size v w h l = go (leb w v) refl
     go true e = omega arith
     go false e = omega (arith, leb-false w v e)
 
-signed_size : (full v : ℕ) → v < 2 ^ 32 → 2 * full ≤ 2 ^ 32 → size_of (signed full v) ≤ 2 ^ 32
+signed_size : (h v : ℕ) → v < 2 ^ 32 → 2 * h ≤ 2 ^ 32 → size_of (signed h v) ≤ 2 ^ 32
 unfolding signed
-signed_size full v h l = go (ltb v full)
+signed_size h v small l = go (ltb v h)
   where
-    go : (t : Bool) → size_of (cond t (pos v) (minus v (2 * full))) ≤ 2 ^ 32
+    go : (t : Bool) → size_of (cond t (pos v) (minus v (2 * h))) ≤ 2 ^ 32
     go true = omega arith
-    go false = minus_size v (2 * full) h l
+    go false = minus_size v (2 * h) small l
 
 scale : (k : ℕ) → k ≤ 31 → HasValue (of_int binary64 (pos (2 ^ k))) false (2 ^ k) 1
 scale k h = whole_exact binary64 (2 ^ k) (le_trans (pow-le-pow_right (lit< tt) h) (lit≤ tt))
@@ -87,6 +88,23 @@ lowered v w small h =
     sub_value binary64 (of_int binary64 (pos v)) (of_int binary64 (pos w)) false false v 1 w 1 (lit< tt) (lit< tt)
     (whole_exact binary64 v (omega arith)) (whole_exact binary64 w (omega arith))
     ∙ rw (mul-one, mul-one) (differ v w (leb w v) refl)
+
+-- less nothing
+lowered_none : (v : ℕ) → v < 2 ^ 32 → sub binary64 (of_int binary64 (pos v)) (of_int binary64 (pos 0)) ≡ of_int binary64 (pos v)
+lowered_none v small =
+    let same : v - 0 ≡ v = omega arith in
+    lowered v 0 small (lit≤ tt) ∙ rw (le-leb 0 v (omega arith)) (ap (λ (n : ℕ). of_int binary64 (pos n)) same)
+
+-- less twice full scale from there on, the test being 1 or 0
+from_full : (h v : ℕ) (t : Bool) → v < 2 ^ 32 → h < 2 ^ 32 → leb h v ≡ t
+    → sub binary64 (of_int binary64 (pos v)) (of_int binary64 (pos (2 * h * from_bool t))) ≡ of_int binary64 (signed h v)
+unfolding signed
+from_full h v true small below e = rw (le-ltb v h (leb-true h v e), mul-one) (lowered v (2 * h) small (omega arith))
+from_full h v false small below e = rw (lt-ltb v h (leb-false h v e), mul-zero) (lowered_none v small)
+
+pub past_full : (h v p w : ℕ) (x : Float) → v < 2 ^ 32 → h < 2 ^ 32 → p ≡ from_bool (leb h v) → w ≡ h → x ≡ of_int binary64 (pos v)
+    → sub binary64 x (of_int binary64 (pos (2 * w * p))) ≡ of_int binary64 (signed h v)
+past_full h v p w x small below e f g = rw (e, f, g) (from_full h v (leb h v) small below refl)
 
 -- ---- of a whole number of 32 digits at most the quotient is the sample
 leveled : (z : ℤ) (k : ℕ) → size_of z ≤ 2 ^ 32 → k ≤ 31 → narrow (div binary64 (of_int binary64 z) (of_int binary64 (pos (2 ^ k)))) ≡ to_bits binary32 (level z (2 ^ k))

@@ -7,16 +7,14 @@ ghost use Rattle.pcm.specs.WholeNumbers.{size, full, signed, whole, sample, samp
 
 use super::Bits;
 
-// The whole number of a word in two's complement, as an f64: from full scale on less twice full scale.
-#[tactic(auto, using(rounding::proofs::Wholes::cast_fits, crate::proofs::Quotients::lowered), unfolding(crate::specs::WholeNumbers::signed))]
+// The whole number of a word in two's complement, as an f64: from full scale on less twice full scale. By a product
+// and not by a branch, since signs follow no pattern.
+#[tactic(auto, using(rounding::proofs::Wholes::cast_fits, crate::proofs::Quotients::past_full), unfolding(crate::specs::WholeNumbers::signed))]
 fn signed(word: u32, full: u32) -> f64
     ensures { result ≡ of_int binary64 (signed full word) }
 {
-    if word < full {
-        f64::from(word)
-    } else {
-        f64::from(word) - (2 * u64::from(full)) as f64
-    }
+    let past = u64::from(word >= full);
+    f64::from(word) - (2 * u64::from(full) * past) as f64
 }
 
 impl Bits {
