@@ -72,7 +72,8 @@ pub extern "C" fn netthimble_pcm_32(
 #[unsafe(no_mangle)]
 pub extern "C" fn netthimble_narrow(values: &[f64], out: &mut [u32]) -> u32
     ensures { (result ≡ refusal_for (narrowed (length values.now) (length out.old)))
-        × (out.new ≡ stored (answer_of (narrowed (length values.now) (length out.old))) (narrow_samples values.now) out.old) }
+        × (out.new
+        ≡ stored (answer_of (narrowed (length values.now) (length out.old))) (narrow_samples values.now) out.old) }
 {
     refusal_of(narrow_samples(values, out))
 }

@@ -1,17 +1,15 @@
 -- Whole numbers as f64, and their quotient by full scale as f32: exact as an f64, so rounded once. Assumes nothing.
-use Rattle.std.proofs.Common.{◌≡◌, ℕ, suc, ◌+◌, ◌-◌, ◌*◌, ◌^◌, ◌<◌, ◌≤◌, Bool, true, false, cond, leb, ltb, ℤ, pos, negsuc, sym, refl, ap, ◌∙◌, arith, mul-one, mul_assoc, pow_pos, pow-add, lt_of_lt_of_le, le_trans, mul-le-mul_left, mul-lt-mul_of_pos_right, mul-zero}
-use Rattle.std.specs.Int.{from_bool}
+use Rattle.std.proofs.Common.{◌≡◌, ℕ, suc, ◌+◌, ◌-◌, ◌*◌, ◌^◌, ◌<◌, ◌≤◌, Bool, true, false, cond, T, leb, ltb, ℤ, pos, negsuc, sym, refl, ap, ◌∙◌, arith, mul-one, mul_assoc, pow_pos, pow-add, lt_of_lt_of_le, le_trans, mul-le-mul_left, mul-lt-mul_of_pos_right}
 use Rattle.std.proofs.Math.Nat.{pow-le-pow_right}
-use borrow.Author.Tests.{leb-true, leb-false, le-leb, le-ltb, lt-ltb}
-use lib.Dec.{lit<, lit≤}
-use lib.Ieee.{Float, Format, binary32, binary64, prec, emax, low, unlike, minus, round, sum, sub, div, of_int, to_bits}
+use borrow.Author.Tests.{leb-false}
+use lib.Dec.{le→leb, lt→ltb, lit<, lit≤}
+use lib.Ieee.{in_float, Float, Format, binary32, binary64, prec, emax, low, unlike, minus, round, div, of_int, to_bits}
 use lib.Ieee.Exact.{HasValue, round_exact}
 use lib.Ieee.Back.{round_whole}
 use Rattle.rounding.specs.Rounding.{convert, narrow}
 use Rattle.rounding.proofs.Exact.{whole_exact}
-use Rattle.rounding.proofs.Operations.{sub_value, sum_least, div_value}
+use Rattle.rounding.proofs.Operations.{div_value}
 use Rattle.rounding.proofs.Read.{convert_value}
-use Rattle.rounding.proofs.Sum.{sum_less}
 use Rattle.pcm.specs.WholeNumbers.{full, signed, whole, level, sample}
 use Rattle.pcm.specs.Statement.{ExactSamples}
 use Rattle.pcm.specs.declared.Bits.{Bits}
@@ -74,37 +72,12 @@ signed_size h v small l = go (ltb v h)
 scale : (k : ℕ) → k ≤ 31 → HasValue (of_int binary64 (pos (2 ^ k))) false (2 ^ k) 1
 scale k h = whole_exact binary64 (2 ^ k) (le_trans (pow-le-pow_right (lit< tt) h) (lit≤ tt))
 
--- ---- the difference of two whole numbers
-differ : (v w : ℕ) (t : Bool) → leb w v ≡ t → sum binary64 false v true w 1 ≡ of_int binary64 (cond t (pos (v - w)) (negsuc (w - suc v)))
-unfolding of_int
-differ v w true e = sum_least binary64 v w 1 (leb-true w v e)
-differ v w false e =
-    let less : v < w = leb-false w v e in
-    let size : w - v ≡ suc (w - suc v) = omega arith in
-    sum_less binary64 false true v w 1 refl less ∙ ap (λ (n : ℕ). round binary64 true n 1) size
-
-pub lowered : (v w : ℕ) → v < 2 ^ 32 → w ≤ 2 ^ 33 → sub binary64 (of_int binary64 (pos v)) (of_int binary64 (pos w)) ≡ of_int binary64 (minus v w)
-lowered v w small h =
-    sub_value binary64 (of_int binary64 (pos v)) (of_int binary64 (pos w)) false false v 1 w 1 (lit< tt) (lit< tt)
-    (whole_exact binary64 v (omega arith)) (whole_exact binary64 w (omega arith))
-    ∙ rw (mul-one, mul-one) (differ v w (leb w v) refl)
-
--- less nothing
-lowered_none : (v : ℕ) → v < 2 ^ 32 → sub binary64 (of_int binary64 (pos v)) (of_int binary64 (pos 0)) ≡ of_int binary64 (pos v)
-lowered_none v small =
-    let same : v - 0 ≡ v = omega arith in
-    lowered v 0 small (lit≤ tt) ∙ rw (le-leb 0 v (omega arith)) (ap (λ (n : ℕ). of_int binary64 (pos n)) same)
-
--- less twice full scale from there on, the test being 1 or 0
-from_full : (h v : ℕ) (t : Bool) → v < 2 ^ 32 → h < 2 ^ 32 → leb h v ≡ t
-    → sub binary64 (of_int binary64 (pos v)) (of_int binary64 (pos (2 * h * from_bool t))) ≡ of_int binary64 (signed h v)
-unfolding signed
-from_full h v true small below e = rw (le-ltb v h (leb-true h v e), mul-one) (lowered v (2 * h) small (omega arith))
-from_full h v false small below e = rw (lt-ltb v h (leb-false h v e), mul-zero) (lowered_none v small)
-
-pub past_full : (h v p w : ℕ) (x : Float) → v < 2 ^ 32 → h < 2 ^ 32 → p ≡ from_bool (leb h v) → w ≡ h → x ≡ of_int binary64 (pos v)
-    → sub binary64 x (of_int binary64 (pos (2 * w * p))) ≡ of_int binary64 (signed h v)
-past_full h v p w x small below e f g = rw (e, f, g) (from_full h v (leb h v) small below refl)
+sizes : (b : Bits) (v : ℕ) → v < 2 ^ 32 → size_of (whole b v) ≤ 2 ^ 32
+unfolding whole
+sizes bits.Eight v h = minus_size v 128 h (lit≤ tt)
+sizes bits.Sixteen v h = signed_size 32768 v h (lit≤ tt)
+sizes bits.TwentyFour v h = signed_size 8388608 v h (lit≤ tt)
+sizes bits.ThirtyTwo v h = signed_size 2147483648 v h (lit≤ tt)
 
 -- ---- of a whole number of 32 digits at most the quotient is the sample
 leveled : (z : ℤ) (k : ℕ) → size_of z ≤ 2 ^ 32 → k ≤ 31 → narrow (div binary64 (of_int binary64 z) (of_int binary64 (pos (2 ^ k)))) ≡ to_bits binary32 (level z (2 ^ k))
@@ -115,7 +88,15 @@ leveled (negsuc n) k small h =
 
 pub kept : (b : Bits) (v : ℕ) → v < 2 ^ 32 → narrow (div binary64 (of_int binary64 (whole b v)) (of_int binary64 (pos (full b)))) ≡ sample b v
 unfolding whole sample
-kept bits.Eight v h = leveled (minus v 128) 7 (minus_size v 128 h (lit≤ tt)) (lit≤ tt)
-kept bits.Sixteen v h = leveled (signed 32768 v) 15 (signed_size 32768 v h (lit≤ tt)) (lit≤ tt)
-kept bits.TwentyFour v h = leveled (signed 8388608 v) 23 (signed_size 8388608 v h (lit≤ tt)) (lit≤ tt)
-kept bits.ThirtyTwo v h = leveled (signed 2147483648 v) 31 (signed_size 2147483648 v h (lit≤ tt)) (lit≤ tt)
+kept bits.Eight v h = leveled (minus v 128) 7 (sizes bits.Eight v h) (lit≤ tt)
+kept bits.Sixteen v h = leveled (signed 32768 v) 15 (sizes bits.Sixteen v h) (lit≤ tt)
+kept bits.TwentyFour v h = leveled (signed 8388608 v) 23 (sizes bits.TwentyFour v h) (lit≤ tt)
+kept bits.ThirtyTwo v h = leveled (signed 2147483648 v) 31 (sizes bits.ThirtyTwo v h) (lit≤ tt)
+
+counts : (z : ℤ) → size_of z ≤ 2 ^ 32 → T (in_float binary64 z)
+unfolding in_float
+counts (pos n) h = le→leb n (2 ^ 53) (omega arith)
+counts (negsuc n) h = lt→ltb n (2 ^ 53) (omega arith)
+
+pub counted : (b : Bits) (v : ℕ) → v < 2 ^ 32 → T (in_float binary64 (whole b v))
+counted b v h = counts (whole b v) (sizes b v h)

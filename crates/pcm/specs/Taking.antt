@@ -17,8 +17,8 @@ frame_size b channels = size b * channels
 abbrev pub frames_of : Bits → ℕ → ℕ → ℕ
 frames_of b channels len = len / frame_size b channels
 
--- taking the channel `number` of `len` bytes into an output of the length `lent`: 1 where no buffer has those channels and frames, or the bytes
--- are not whole frames; 3; 8
+-- taking the channel `number` of `len` bytes into an output of the length `lent`: 1 where no buffer has those channels and frames, or the
+-- bytes are not whole frames; 3; 8
 unfoldable pub taken : Bits → ℕ → ℕ → ℕ → ℕ → Result Unit Refusal
 taken b len channels number lent =
     let frames = frames_of b channels len in

@@ -1,20 +1,21 @@
 //! A sample's bytes as a whole number, and the f32 that it is.
-ghost use Rattle.std.specs.Prelude.{◌≡◌, ◌+◌, ◌≤◌, ◌<◌, ◌^◌, length, pos};
-ghost use Rattle.std.specs.Float.{binary64};
-ghost use Rattle.std.specs.Float.Ieee.{of_int};
+ghost use Rattle.std.specs.Prelude.{◌≡◌, ◌+◌, ◌≤◌, ◌<◌, ◌^◌, length};
 ghost use Rattle.clip.specs.Reading.{number_at};
 ghost use Rattle.pcm.specs.WholeNumbers.{size, full, signed, whole, sample, sample_at};
 
 use super::Bits;
 
-// The whole number of a word in two's complement, as an f64: from full scale on less twice full scale. By a product
-// and not by a branch, since signs follow no pattern.
-#[tactic(auto, using(rounding::proofs::Wholes::cast_fits, crate::proofs::Quotients::past_full), unfolding(crate::specs::WholeNumbers::signed))]
-fn signed(word: u32, full: u32) -> f64
-    ensures { result ≡ of_int binary64 (signed full word) }
+// The whole number of a word in two's complement: from full scale on less twice full scale. As an integer, in which
+// the choice takes no branch: signs follow no pattern.
+#[tactic(auto, unfolding(crate::specs::WholeNumbers::signed))]
+fn signed(word: u32, full: u32) -> i64
+    ensures { result ≡ signed full word }
 {
-    let past = u64::from(word >= full);
-    f64::from(word) - (2 * u64::from(full) * past) as f64
+    if word < full {
+        i64::from(word)
+    } else {
+        i64::from(word) - 2 * i64::from(full)
+    }
 }
 
 impl Bits {
@@ -58,24 +59,24 @@ impl Bits {
         }
     }
 
-    // The whole number of a word, as an f64.
-    #[tactic(auto, using(crate::proofs::Quotients::lowered), unfolding(crate::specs::WholeNumbers::whole))]
-    fn whole(self, word: u32) -> f64
-        ensures { result ≡ of_int binary64 (whole self word) }
+    // The whole number of a word.
+    #[tactic(auto, unfolding(crate::specs::WholeNumbers::whole))]
+    fn whole(self, word: u32) -> i64
+        ensures { result ≡ whole self word }
     {
         let full = self.full();
         match self {
-            Bits::Eight => f64::from(word) - f64::from(full),
+            Bits::Eight => i64::from(word) - i64::from(full),
             Bits::Sixteen | Bits::TwentyFour | Bits::ThirtyTwo => signed(word, full),
         }
     }
 
     // The sample of a word: the quotient is exact as an f64, and rounded once.
-    #[tactic(auto, using(crate::proofs::Quotients::kept))]
+    #[tactic(auto, using(crate::proofs::Quotients::kept, crate::proofs::Quotients::counted))]
     fn sample(self, word: u32) -> u32
         ensures { result ≡ sample self word }
     {
-        rounding::narrow(self.whole(word) / f64::from(self.full()))
+        rounding::narrow(self.whole(word) as f64 / f64::from(self.full()))
     }
 
     /// The f32 bits of the sample whose bytes stand from a place on.
