@@ -1526,10 +1526,12 @@ def ways_in(folder):
     yield from ((f"bytes of {bits} bits", lambda bits=bits: pcm(48000, noise[: count * bits // 8], bits)) for bits in (8, 16, 24, 32))
     short, long = array("h", noise[: 2 * count]), array("i", noise)
     middle = array("i", [value >> 8 for value in long])
-    yield from ((f"array('{given.typecode}') of {bits} bits", lambda bits=bits, given=given: pcm(48000, given, bits)) for given, bits in ((short, 16), (middle, 24), (long, 32)))
+    numbers = (short, 16), (middle, 24), (long, 32)
+    yield from ((f"array('{given.typecode}') of {bits} bits", lambda bits=bits, given=given: pcm(48000, given, bits)) for given, bits in numbers)
     doubles = array("d", [value / 2**31 for value in long])
     floats = array("f", doubles)
-    rows = [(f"array('{given.typecode}')", given) for given in (floats, doubles)] + [("memory of floats", memoryview(floats)), ("every second float", memoryview(array("f", [0.5]) * (2 * count))[::2])]
+    rows = [(f"array('{given.typecode}')", given) for given in (floats, doubles)]
+    rows += [("memory of floats", memoryview(floats)), ("every second float", memoryview(array("f", [0.5]) * (2 * count))[::2])]
     yield from ((name, lambda row=row: clip(48000, [row])) for name, row in rows)
     yield from ((f"frames of {name}", lambda row=row: clip.from_frames(48000, row)) for name, row in rows[:2])
     words = array("I", floats.tobytes())
@@ -1539,7 +1541,7 @@ def ways_in(folder):
     except ImportError:
         return
     kinds = [(f"NumPy's {kind}", clip, [numpy.array(floats, kind)], ()) for kind in ("f4", "f8")]
-    kinds += [(f"NumPy's {kind} of {bits} bits", pcm, numpy.array(given), (bits,)) for kind, given, bits in (("i2", short, 16), ("i4", middle, 24), ("i4", long, 32))]
+    kinds += [(f"NumPy's {numpy.array(given).dtype} of {bits} bits", pcm, numpy.array(given), (bits,)) for given, bits in numbers]
     yield from ((name, lambda call=call, given=given, more=more: call(48000, given, *more)) for name, call, given, more in kinds)
 
 

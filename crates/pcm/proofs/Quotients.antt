@@ -1,7 +1,7 @@
 -- Whole numbers as f64, and their quotient by full scale as f32: exact as an f64, so rounded once. Assumes nothing.
-use Rattle.std.proofs.Common.{◌≡◌, ℕ, suc, ◌+◌, ◌-◌, ◌*◌, ◌^◌, ◌<◌, ◌≤◌, Bool, true, false, cond, T, leb, ltb, ℤ, pos, negsuc, sym, refl, ap, ◌∙◌, arith, mul-one, mul_assoc, pow_pos, pow-add, lt_of_lt_of_le, le_trans, mul-le-mul_left, mul-lt-mul_of_pos_right}
+use Rattle.std.proofs.Common.{◌≡◌, ℕ, suc, ◌+◌, ◌-◌, ◌*◌, ◌^◌, ◌<◌, ◌≤◌, Bool, true, false, cond, T, leb, ltb, ℤ, pos, negsuc, sym, refl, ap, ◌∙◌, arith, mul-one, mul_assoc, pow_pos, pow-add, lt_of_lt_of_le, lt_of_le_of_lt, le_trans, mul-le-mul_left, mul-lt-mul_of_pos_right}
 use Rattle.std.proofs.Math.Nat.{pow-le-pow_right}
-use borrow.Author.Tests.{leb-false}
+use borrow.Author.Tests.{ltb-true, ltb-false, leb-false}
 use lib.Dec.{le→leb, lt→ltb, lit<, lit≤}
 use lib.Ieee.{in_float, Float, Format, binary32, binary64, prec, emax, low, unlike, minus, round, div, of_int, to_bits}
 use lib.Ieee.Exact.{HasValue, round_exact}
@@ -10,8 +10,8 @@ use Rattle.rounding.specs.Rounding.{convert, narrow}
 use Rattle.rounding.proofs.Exact.{whole_exact}
 use Rattle.rounding.proofs.Operations.{div_value}
 use Rattle.rounding.proofs.Read.{convert_value}
-use Rattle.pcm.specs.WholeNumbers.{full, signed, whole, level, sample}
-use Rattle.pcm.specs.Statement.{ExactSamples}
+use Rattle.pcm.specs.WholeNumbers.{size, full, signed, whole, level, sample}
+use Rattle.pcm.specs.Statement.{IsQuotient, ExactSamples}
 use Rattle.pcm.specs.declared.Bits.{Bits}
 use Rattle.pcm.specs.declared.Bits.TheVariants as bits
 
@@ -44,10 +44,6 @@ quotient s n k x y small h v w =
     let e : div binary64 x y ≡ round binary64 s n (2 ^ k) =
     div_value binary64 x y s false n 1 (2 ^ k) 1 (lit< tt) (pow_pos k) v w ∙ rw (own_sign s, mul-one, mul-one) refl in
     ap (to_bits binary32) (ap (convert binary32) e ∙ convert_value binary32 (round binary64 s n (2 ^ k)) s n (2 ^ k) (pow_pos k) (exact binary64 s n k small h))
-
-pub exact_samples : ExactSamples
-unfolding level
-exact_samples = record { plus = λ n k small h. exact binary32 false n k small h; minus = λ n k small h. exact binary32 true (suc n) k small h }
 
 -- ---- the size of a whole number
 abbrev size_of : ℤ → ℕ
@@ -100,3 +96,42 @@ counts (negsuc n) h = lt→ltb n (2 ^ 53) (omega arith)
 
 pub counted : (b : Bits) (v : ℕ) → v < 2 ^ 32 → T (in_float binary64 (whole b v))
 counted b v h = counts (whole b v) (sizes b v h)
+
+-- ---- of up to 24 bits the sample is exact
+minus_within : (h v : ℕ) → v < 2 * h → size_of (minus v h) ≤ h
+minus_within h v below = go (leb h v) refl
+  where
+    go : (t : Bool) → leb h v ≡ t → size_of (cond t (pos (v - h)) (negsuc (h - suc v))) ≤ h
+    go true e = omega arith
+    go false e = omega (arith, leb-false h v e)
+
+signed_within : (h v : ℕ) → v < 2 * h → size_of (signed h v) ≤ h
+unfolding signed
+signed_within h v below = go (ltb v h) refl
+  where
+    past : (t : Bool) → leb (2 * h) v ≡ t → h ≤ v → size_of (cond t (pos (v - 2 * h)) (negsuc (2 * h - suc v))) ≤ h
+    past true e l = omega arith
+    past false e l = omega arith
+
+    go : (t : Bool) → ltb v h ≡ t → size_of (cond t (pos v) (minus v (2 * h))) ≤ h
+    go true e = omega (arith, ltb-true v h e)
+    go false e = past (leb (2 * h) v) refl (ltb-false v h e)
+
+exact_level : (z : ℤ) (k : ℕ) → size_of z < 2 ^ 24 → k ≤ 31 → IsQuotient (level z (2 ^ k)) z (2 ^ k)
+unfolding level
+exact_level (pos n) k small h = exact binary32 false n k small h
+exact_level (negsuc n) k small h = exact binary32 true (suc n) k small h
+
+of_word : (b : Bits) (word : ℕ) → size b ≤ 3 → word < 2 ^ (8 * size b) → IsQuotient (level (whole b word) (full b)) (whole b word) (full b)
+unfolding whole
+of_word bits.Eight v few h = exact_level (minus v 128) 7 (lt_of_le_of_lt (minus_within 128 v h) (lit< tt)) (lit≤ tt)
+of_word bits.Sixteen v few h = exact_level (signed 32768 v) 15 (lt_of_le_of_lt (signed_within 32768 v h) (lit< tt)) (lit≤ tt)
+of_word bits.TwentyFour v few h = exact_level (signed 8388608 v) 23 (lt_of_le_of_lt (signed_within 8388608 v h) (lit< tt)) (lit≤ tt)
+of_word bits.ThirtyTwo v few h = absurd (not_three few)
+  where
+    not_three : 4 ≤ 3 → ⊥
+    not_three h = omega arith
+
+pub exact_samples : ExactSamples
+unfolding whole signed
+exact_samples = record { exact = of_word; greatest = of_word bits.TwentyFour 0x7F_FFFF (lit≤ tt) (lit< tt); least = of_word bits.TwentyFour 0x80_0000 (lit≤ tt) (lit< tt) }

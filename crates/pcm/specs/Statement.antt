@@ -1,16 +1,24 @@
 -- What follows of whole numbers as samples, and known ones (docs/REFERENCE.md, 'Whole numbers').
 -- `HasValue x s a c` (lib.Ieee.Exact) says that x is the fraction a / c, negative where s is true.
-use Rattle.std.specs.Prelude.{◌≡◌, ℕ, suc, ◌^◌, ◌≤◌, ◌<◌, true, false, pos, negsuc, [], ◌∷◌, Ok, Err}
+use Rattle.std.specs.Prelude.{◌≡◌, ℕ, suc, ◌*◌, ◌^◌, ◌≤◌, ◌<◌, true, false, ℤ, pos, negsuc, [], ◌∷◌, Ok, Err, Float}
 use Rattle.std.specs.Float.Ieee.Exact.{HasValue}
 use Rattle.buffer.specs.declared.refusals.Refusal.TheVariants as refused
-use Rattle.pcm.specs.WholeNumbers.{level, sample}
+use Rattle.pcm.specs.WholeNumbers.{size, full, whole, level, sample}
 use Rattle.pcm.specs.Taking.{taken, channel_samples}
+use Rattle.pcm.specs.declared.Bits.{Bits}
 use Rattle.pcm.specs.declared.Bits.TheVariants as bits
 
--- of a whole number below 2 ^ 24 in size, as those of up to 24 bits are, the sample is the quotient by full scale, exactly
+-- x is z / full, exactly
+abbrev pub IsQuotient : Float → ℤ → ℕ → Type 0
+IsQuotient x (pos n) full = HasValue x false n full
+IsQuotient x (negsuc n) full = HasValue x true (suc n) full
+
 pub record ExactSamples : Type 0 where
-  pub plus : (n k : ℕ) → n < 2 ^ 24 → k ≤ 31 → HasValue (level (pos n) (2 ^ k)) false n (2 ^ k)
-  pub minus : (n k : ℕ) → suc n < 2 ^ 24 → k ≤ 31 → HasValue (level (negsuc n) (2 ^ k)) true (suc n) (2 ^ k)
+  -- of 8, 16 and 24 bits every word's sample is its whole number / full scale, exactly
+  pub exact : (b : Bits) (word : ℕ) → size b ≤ 3 → word < 2 ^ (8 * size b) → IsQuotient (level (whole b word) (full b)) (whole b word) (full b)
+  -- so of the greatest number of 24 bits, and of the least
+  pub greatest : HasValue (level (whole bits.TwentyFour 0x7F_FFFF) 8388608) false 8388607 8388608
+  pub least : HasValue (level (whole bits.TwentyFour 0x80_0000) 8388608) true 8388608 8388608
 
 -- computed: the least, the greatest, zero and its neighbours
 unfoldable pub KnownSamples : Type 0
