@@ -145,16 +145,12 @@ module _ (p : Player) where
     abbrev in_block : Ramp
     in_block = ramp_in p q.player.render_state.started q.player.start_time.0
 
-    -- the plan of the player without a ramp
-    abbrev quiet : Ramp → Plan
-    quiet r = record { player = with_ramp q.player r; keep_alive = q.keep_alive; channels = q.channels; uncounted = q.uncounted; sample = q.sample }
-
-    plan_without : plan 128 (without p) time rate factor ≡ quiet (hushed (counted 128 in_block q.uncounted))
+    plan_without : plan 128 (without p) time rate factor ≡ plan_with q (hushed (counted 128 in_block q.uncounted))
     plan_without =
         ap (ramped_plan 128 (without p)) (reads_none 128 p (hushed p.ramp) time rate factor)
         ∙ unramped 128 (without p) (plan_with q (hushed p.ramp)) refl
-        ∙ ap (λ (r : Ramp). quiet (counted 128 r q.uncounted)) (in_without q.player.render_state.started q.player.start_time.0)
-        ∙ ap quiet (counted_without 128 in_block q.uncounted)
+        ∙ ap (λ (r : Ramp). plan_with q (counted 128 r q.uncounted)) (in_without q.player.render_state.started q.player.start_time.0)
+        ∙ ap (plan_with q) (counted_without 128 in_block q.uncounted)
 
     -- its answer and player, by the checks, which read no ramp
     played_lem : (k : Result Unit Refusal) → answer_of (after_checks k (report_of (plan 128 (without p) time rate factor)))

@@ -49,13 +49,7 @@ abbrev pub ramp_after : ℕ → Player → Plan → Ramp
 ramp_after n p q = counted n (ramp_in p q.player.render_state.started q.player.start_time.0) q.uncounted
 
 abbrev pub counting : ℕ → Player → Plan → Plan
-counting n p q = record {
-  player = with_ramp q.player (ramp_after n p q);
-  keep_alive = q.keep_alive;
-  channels = q.channels;
-  uncounted = q.uncounted;
-  sample = q.sample;
-}
+counting n p q = plan_with q (ramp_after n p q)
 
 pub after_length : (n : ℕ) (p : Player) (q : Plan) → (ramp_after n p q).length ≡ p.ramp.length
 after_length n p q = counted_length n _ q.uncounted ∙ in_length p q.player.render_state.started q.player.start_time.0

@@ -52,8 +52,8 @@ abbrev pub answer_with : Result BlockReport Refusal → Ramp → Result BlockRep
 answer_with (Ok report) r = Ok (report_with report r)
 answer_with (Err refusal) r = Err refusal
 
--- With length 0 a block's plan, its answer and its output are those of the block without a ramp; of the player, all but the ramp. So a block
--- call, a block in cents and a preview are, which all take what they give from `plan`. And the block without a ramp reads none.
+-- With length 0 a block's plan, its answer and its output are those of the block without a ramp; of the player, all but the ramp. So a
+-- block call, a block in cents and a preview are, which all take what they give from `plan`. And the block without a ramp reads none.
 pub record NoRamp : Type 0 where
   pub plan : (n : ℕ) (p : Player) (time rate factor : Float) → p.ramp.length ≡ 0 → (r : Ramp)
       → plan_with (full.plan n p time rate factor) r ≡ plan_with (bare_plan n p time rate factor) r

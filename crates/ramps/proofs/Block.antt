@@ -67,14 +67,14 @@ stop_small r w e = go r.has_stop_sample e
     go false h = absurd cc
 
 -- its quotient
-pub level_quotient : (r : Ramp) (uncounted i length up down level : ℕ) (x : Float) → i < 128 → length ≡ length_of r → up ≡ up_of r → down ≡ down_of 128 r
-    → level ≡ min length (min (up + (i - uncounted)) (down - (i - uncounted)))
+pub level_quotient : (r : Ramp) (uncounted i k length up down level : ℕ) (x : Float) → i < 128 → k ≡ i - uncounted → length ≡ length_of r → up ≡ up_of r → down ≡ down_of 128 r
+    → level ≡ min length (min (up + k) (down - k))
     → x ≡ div binary32 (of_int binary32 (pos level)) (of_int binary32 (pos (max length 1))) → x ≡ quotient r uncounted i
 unfolding quotient
-level_quotient r uncounted i length up down level x low l u d e q =
+level_quotient r uncounted i k length up down level x low since l u d e q =
     let most : max length 1 ≡ max 1 length = omega arith in
     let is : level ≡ _ = e in
-    rw (q, most, e, l, u, d, level_lem (length_of r) r.count (i - uncounted) (stop_of r) (omega arith) (stop_small r) (omega arith), level_at (length_of r) (stop_of r) (min (2 ^ 53) (r.count + (i - uncounted)))) refl
+    rw (q, most, e, since, l, u, d, level_lem (length_of r) r.count (i - uncounted) (stop_of r) (omega arith) (stop_small r) (omega arith), level_at (length_of r) (stop_of r) (min (2 ^ 53) (r.count + (i - uncounted)))) refl
 
 -- ---- a part of a channel's samples
 module _ (from to : ℕ) (f : ℕ → ℕ) (xs : List ℕ) (ordered : from ≤ to) (within : to ≤ length xs) where

@@ -2,5 +2,6 @@
 -- its samples, which `player` cites.
 mod Known
 mod Finite
+mod Whole
 pub mod Laws
 pub mod Block

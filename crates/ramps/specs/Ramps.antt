@@ -1,5 +1,5 @@
--- docs/REFERENCE.md, 'Ramps': the factor of a sample by its number, the samples of a block, and the record after it. A factor is told by its
--- numerator, a whole number; its denominator is the length. Definitions only.
+-- docs/REFERENCE.md, 'Ramps': the factor of a sample by its number, the samples of a block, and the record after it. A factor is told by
+-- its numerator, a whole number; its denominator is the length. Definitions only.
 use Rattle.std.specs.Prelude.{Bool, true, false, cond, ℕ, ◌+◌, ◌-◌, ◌^◌, min, ltb, eqb, pos, Float, from_bits, to_bits, Option, None, Some}
 use Rattle.std.specs.Float.{binary32, binary64}
 use Rattle.std.specs.Float.Ieee.{of_int, sub, mul, div, ne}

@@ -1,6 +1,8 @@
 //! The factors of a block, worked out once for all channels, and the samples of a channel multiplied by them.
 ghost use Rattle.std.specs.Prelude.{◌≡◌, true, ◌&&◌, cond, ℕ, T, ◌+◌, ◌-◌, ◌≤◌, ◌<◌, min, leb, ltb, length, get_or};
-ghost use Rattle.std.specs.Float.{nan};
+ghost use Rattle.std.specs.Prelude.{pos};
+ghost use Rattle.std.specs.Float.{nan, binary32};
+ghost use Rattle.std.specs.Float.Ieee.{of_int};
 ghost use Rattle.std.specs.Float.Ieee.Scale.{finite};
 ghost use Rattle.lists.specs.Table.{table, filled};
 ghost use Rattle.ramps.specs.Ramps.{length_of, stop_of, multiplied};
@@ -87,6 +89,14 @@ fn multiply_all(samples: &mut [u32], quotients: &[f32])
     }
 }
 
+// A whole number as an f32: above 2^23 the last bits of a pattern count ones. No cast, so that four are made at a time.
+#[tactic(auto, using(crate::proofs::Whole::pattern, crate::proofs::Whole::counted))]
+fn whole(n: u16) -> f32
+    ensures { result ≡ of_int binary32 (pos n) }
+{
+    f32::from_bits(0x4b00_0000 + u32::from(n)) - 8388608.0
+}
+
 // What the levels of a block go by: the length, the level of a rise and of a fall at the first sample that counts, the
 // first at most the length, and the second at most 128 above it.
 #[derive(Clone, Copy)]
@@ -99,11 +109,10 @@ struct Slopes {
 
 impl Slopes {
     // The level of the k-th sample that counts.
-    fn level(self, k: usize) -> u16
+    fn level(self, k: u16) -> u16
         requires { k < 128 }
         ensures { result ≡ min self.length (min (self.up + k) (self.down - k)) }
     {
-        let k = k as u16;
         self.length
             .min((self.up + k).min(self.down.saturating_sub(k)))
     }
@@ -177,11 +186,12 @@ impl Ramp {
         ensures { AreFactors 128 self uncounted result }
     {
         let slopes = self.slopes();
+        let before = uncounted.min(128) as u16;
         let frames = f32::from(slopes.length.max(1));
         let mut quotients = [0.0f32; 128];
-        for i in 0..128usize {
-            let level = slopes.level(i.saturating_sub(uncounted));
-            quotients[i] = f32::from(level) / frames;
+        for i in 0..128u16 {
+            let level = slopes.level(i.saturating_sub(before));
+            quotients[usize::from(i)] = whole(level) / frames;
         }
         Factors {
             quotients,

@@ -1,12 +1,23 @@
 -- `ramps::Ramp::factors`: the array is filled to its end, with finite numbers. Assumes nothing.
 -- By hand: with laws named on the function neither is proved.
-use Rattle.std.proofs.Common.{◌≡◌, arith, refl, subst, sym, T, get_or, List}
-use lib.Ieee.{Float, nan}
+use Rattle.std.proofs.Common.{◌≡◌, ◌-◌, arith, refl, subst, sym, T, get_or, List}
+use lib.Ieee.{Float, nan, binary32, div}
 use lib.Ieee.Scale.{finite}
-use Rattle.lists.specs.Table.{filled_end, table, get_or_table}
+use Rattle.lists.specs.Table.{filled_end, filled_more, table, get_or_table}
 use Rattle.ramps.specs.Factors.{quotient}
+use Rattle.ramps.proofs.Block.{level_quotient}
 use Rattle.ramps.proofs.Finite.{quotient_finite}
 use Rattle.ramps.proofs.Ramp.factors.Goals as goal
+
+pub loop-i-preserved : goal.loop-i-preserved
+loop-i-preserved c =
+    let s = c.slopes-slopes in
+    let at : c.from.result ≡ c.loop-i.i = cc in
+    let since : c.saturating_sub.result ≡ c.loop-i.i - c.args.uncounted = omega arith in
+    let quotient_is : div binary32 c.whole.result c.from-frames.result ≡ quotient c.args.self c.args.uncounted c.loop-i.i =
+    level_quotient c.args.self c.args.uncounted c.loop-i.i c.saturating_sub.result s.result.length s.result.up s.result.down c.level-level.result _
+    (omega arith) since s.ensures.0 s.ensures.1 s.ensures.2 c.level-level.ensures (cc) in
+    rw at (filled_more _ _ _ _ _ c.loop-i.invariant quotient_is)
 
 pub returns : goal.returns
 returns c =
