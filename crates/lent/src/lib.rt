@@ -178,10 +178,20 @@ pub fn block_on_lent<F: FnOnce(Player, &mut [u32]) -> Blocked>(
     let Blocked { player, answer } = block(*p, out);
     p.start_time = player.start_time;
     p.offset = player.offset;
-    p.render_state = player.render_state;
     p.has_block = player.has_block;
     p.block_time = player.block_time;
-    p.ramp = player.ramp;
+    // Field by field, since a copy of either record would copy the bytes behind its flags too, which takes longer
+    // than all of an aligned block.
+    p.render_state.buffer_time = player.render_state.buffer_time;
+    p.render_state.started = player.render_state.started;
+    p.render_state.entered_loop = player.render_state.entered_loop;
+    p.render_state.buffer_time_elapsed = player.render_state.buffer_time_elapsed;
+    p.render_state.is_aligned = player.render_state.is_aligned;
+    p.render_state.ended = player.render_state.ended;
+    p.ramp.length = player.ramp.length;
+    p.ramp.count = player.ramp.count;
+    p.ramp.has_stop_sample = player.ramp.has_stop_sample;
+    p.ramp.stop_sample = player.ramp.stop_sample;
     answer
 }
 

@@ -9,7 +9,7 @@ use Rattle.lists.specs.Table.{table, filled, table_same, get_or_table, filled_en
 use Rattle.ramps.specs.declared.Ramp.{Ramp}
 use Rattle.ramps.specs.declared.Factors.{Factors}
 use Rattle.ramps.specs.Ramps.{ramped}
-use Rattle.ramps.specs.Factors.{touches, factors_of, multiplied_by}
+use Rattle.ramps.specs.Factors.{touches, AreFactors, multiplied_by}
 use Rattle.ramps.proofs.Laws.{ramp_laws_lem}
 use Rattle.ramps.proofs.Block.{by_factors, untouched}
 use lib.Ieee.{Float}
@@ -41,9 +41,9 @@ part_by_infos f sample l m o full w e =
 
 module _ (r : Ramp) (u : ℕ) (sample : List ℕ → ℕ → ℕ) (frames : ℕ) (samples out : List ℕ) (count : ℕ) where
   -- by the factors
-  pub ramped_written : (f : Factors) → f ≡ factors_of 128 r u
+  pub ramped_written : (f : Factors) → AreFactors 128 r u f
       → written 128 (λ l i. multiplied_by f i (sample l i)) frames samples out count ≡ written 128 (λ l i. ramped r u i (sample l i)) frames samples out count
-  ramped_written f e = rw e (written_same 128 _ _ frames samples out count (λ l i b. by_factors r u i (sample l i) b))
+  ramped_written f e = written_same 128 _ _ frames samples out count (λ l i b. by_factors r u i (sample l i) b f e)
 
   -- no sample of the block has a factor
   pub untouched_written : touches 128 r u ≡ false

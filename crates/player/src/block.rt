@@ -221,6 +221,7 @@ impl Player {
     }
 
     // The player with another ramp.
+    #[inline(always)]
     fn with_ramp(self, ramp: Ramp) -> Player
         ensures { result ≡ with_ramp self ramp }
     {

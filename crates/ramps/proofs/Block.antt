@@ -18,7 +18,7 @@ use Rattle.lists.specs.Parts.{put, length-put, get_or_put_before, get_or_put_in,
 use Rattle.ramps.specs.declared.Ramp.{Ramp}
 use Rattle.ramps.specs.declared.Factors.{Factors}
 use Rattle.ramps.specs.Ramps.{numerator, level, multiplied, scaled, ramped, number, factor, length_of, stop_of}
-use Rattle.ramps.specs.Factors.{quotient, up_of, down_of, down_from, rising_end, falling_from, falling_start, touches, factors_of, multiplied_by}
+use Rattle.ramps.specs.Factors.{quotient, up_of, down_of, down_from, rising_end, falling_from, falling_start, touches, AreFactors, multiplied_by}
 use Rattle.ramps.proofs.Laws.{onset, stop, is_some, is_none}
 
 -- ---- the level of a sample, as the smallest of three
@@ -30,7 +30,7 @@ level_at : (length : ℕ) (stop : Option ℕ) (j : ℕ) → level length stop j 
 level_at length None j = onset length j
 level_at length (Some w) j = stop length w j
 
-level_le : (length : ℕ) (stop : Option ℕ) (j : ℕ) → level length stop j ≤ length
+pub level_le : (length : ℕ) (stop : Option ℕ) (j : ℕ) → level length stop j ≤ length
 level_le length stop j = rw (level_at length stop j) (go stop)
   where
     go : (s : Option ℕ) → least length s j ≤ length
@@ -69,11 +69,12 @@ stop_small r w e = go r.has_stop_sample e
 -- its quotient
 pub level_quotient : (r : Ramp) (uncounted i length up down level : ℕ) (x : Float) → i < 128 → length ≡ length_of r → up ≡ up_of r → down ≡ down_of 128 r
     → level ≡ min length (min (up + (i - uncounted)) (down - (i - uncounted)))
-    → x ≡ div binary32 (of_int binary32 (pos level)) (of_int binary32 (pos length)) → x ≡ quotient r uncounted i
+    → x ≡ div binary32 (of_int binary32 (pos level)) (of_int binary32 (pos (max length 1))) → x ≡ quotient r uncounted i
 unfolding quotient
 level_quotient r uncounted i length up down level x low l u d e q =
+    let most : max length 1 ≡ max 1 length = omega arith in
     let is : level ≡ _ = e in
-    rw (q, e, l, u, d, level_lem (length_of r) r.count (i - uncounted) (stop_of r) (omega arith) (stop_small r) (omega arith), level_at (length_of r) (stop_of r) (min (2 ^ 53) (r.count + (i - uncounted)))) refl
+    rw (q, most, e, l, u, d, level_lem (length_of r) r.count (i - uncounted) (stop_of r) (omega arith) (stop_small r) (omega arith), level_at (length_of r) (stop_of r) (min (2 ^ 53) (r.count + (i - uncounted)))) refl
 
 -- ---- a part of a channel's samples
 module _ (from to : ℕ) (f : ℕ → ℕ) (xs : List ℕ) (ordered : from ≤ to) (within : to ≤ length xs) where
@@ -177,8 +178,11 @@ has_some u i c length w low from small below = grind (arith, nat_tests)
 
 -- what becomes of a sample that counts, by that test
 by_test : (length k bits : ℕ) (x : Option ℕ) (has : Bool) → ltb k length ≡ has → (k < length → x ≡ Some k) → (length ≤ k → x ≡ None)
-    → cond has (multiplied (factor length k) bits) bits ≡ scaled length x bits
-by_test length k bits x true t some none = let low : k < length = grind (arith, nat_tests) in rw (some low) refl
+    → cond has (multiplied (factor (max 1 length) k) bits) bits ≡ scaled length x bits
+by_test length k bits x true t some none =
+    let low : k < length = grind (arith, nat_tests) in
+    let most : max 1 length ≡ length = omega arith in
+    rw (some low, most) refl
 by_test length k bits x false t some none = let high : length ≤ k = grind (arith, nat_tests) in rw (none high) refl
 
 module _ (r : Ramp) (u i bits : ℕ) (low : i < 128) where
@@ -193,9 +197,10 @@ module _ (r : Ramp) (u i bits : ℕ) (low : i < 128) where
       go None small = has_none u i r.count (length_of r) low from (omega arith)
       go (Some w) small = has_some u i r.count (length_of r) w low from (omega arith) (small w refl)
 
-  pub by_factors : multiplied_by (factors_of 128 r u) i bits ≡ ramped r u i bits
-  unfolding multiplied_by factors_of ramped quotient
-  by_factors = go (leb u i) refl
+  core : cond (leb u i && (ltb i (rising_end 128 r u) || leb (falling_start 128 r u) i)) (multiplied (get_or (table 128 (quotient r u)) i nan) bits) bits
+      ≡ ramped r u i bits
+  unfolding ramped quotient
+  core = go (leb u i) refl
     where
       length : ℕ
       length = length_of r
@@ -207,7 +212,7 @@ module _ (r : Ramp) (u i bits : ℕ) (low : i < 128) where
       j = number r u i
 
       q : ℕ → Float
-      q k = factor (length_of r) (level (length_of r) (stop_of r) (number r u k))
+      q k = factor (max 1 (length_of r)) (level (length_of r) (stop_of r) (number r u k))
 
       go : (b : Bool) → leb u i ≡ b
           → cond (leb u i && (ltb i (rising_end 128 r u) || leb (falling_start 128 r u) i)) (multiplied (get_or (table 128 q) i nan) bits) bits
@@ -220,9 +225,12 @@ module _ (r : Ramp) (u i bits : ℕ) (low : i < 128) where
           (λ h. is_some length stop j (level length stop j) refl h)
           (λ h. is_none length stop j (le_antisymm (level_le length stop j) h)))
 
+  pub by_factors : (f : Factors) → AreFactors 128 r u f → multiplied_by f i bits ≡ ramped r u i bits
+  unfolding multiplied_by
+  by_factors f e = rw (e.0, e.1, e.2, e.3) core
+
   pub untouched : touches 128 r u ≡ false → ramped r u i bits ≡ bits
-  unfolding touches multiplied_by factors_of
+  unfolding touches
   untouched none =
       let clear : (leb u i && (ltb i (rising_end 128 r u) || leb (falling_start 128 r u) i)) ≡ false = grind (arith, nat_tests) in
-      let kept : multiplied_by (factors_of 128 r u) i bits ≡ bits = rw clear refl in
-      sym by_factors ∙ kept
+      sym core ∙ ap (λ (b : Bool). cond b (multiplied (get_or (table 128 (quotient r u)) i nan) bits) bits) clear

@@ -2,6 +2,9 @@
 //! multiplied by theirs (docs/REFERENCE.md, 'Ramps'). Nothing here refuses.
 #![tactic(auto)]
 
+ghost use Rattle.std.specs.Prelude.{ℕ, ◌<◌, T, get_or};
+ghost use Rattle.std.specs.Float.{nan};
+ghost use Rattle.std.specs.Float.Ieee.Scale.{finite};
 ghost use Rattle.ramps.specs.Known.{KnownRamps};
 ghost use Rattle.ramps.specs.Laws.{RampLaws};
 
@@ -34,6 +37,7 @@ pub struct Factors {
     pub(crate) uncounted: usize,
     pub(crate) rising_end: usize,
     pub(crate) falling_start: usize,
+    ghost finite: { (i : ℕ) → i < 128 → T (finite (get_or quotients i nan)) },
 }
 
 /// What follows of the factors, for every length, stop and number.

@@ -1,9 +1,10 @@
 //! The factors of a block, worked out once for all channels, and the samples of a channel multiplied by them.
-ghost use Rattle.std.specs.Prelude.{◌≡◌, ◌&&◌, cond, ◌+◌, ◌-◌, ◌≤◌, ◌<◌, min, leb, ltb, length, get_or};
+ghost use Rattle.std.specs.Prelude.{◌≡◌, true, ◌&&◌, cond, ℕ, T, ◌+◌, ◌-◌, ◌≤◌, ◌<◌, min, leb, ltb, length, get_or};
 ghost use Rattle.std.specs.Float.{nan};
+ghost use Rattle.std.specs.Float.Ieee.Scale.{finite};
 ghost use Rattle.lists.specs.Table.{table, filled};
 ghost use Rattle.ramps.specs.Ramps.{length_of, stop_of, multiplied};
-ghost use Rattle.ramps.specs.Factors.{rising_end, falling_start, touches, up_of, down_of, factors_of, multiplied_by};
+ghost use Rattle.ramps.specs.Factors.{rising_end, falling_start, touches, up_of, down_of, AreFactors, multiplied_by, is_finite_bits};
 
 use super::counting::LAST_STOP;
 use super::{Factors, Ramp};
@@ -17,15 +18,72 @@ fn multiplied(factor: f32, bits: u32) -> u32
     (f32::from_pattern(bits) * factor).to_pattern()
 }
 
+// The same of a finite sample, by a finite factor. Without a test for a NaN, so that samples are multiplied four at a
+// time.
+#[tactic(auto, unfolding(crate::specs::Ramps::multiplied))]
+fn multiplied_finite(factor: f32, bits: u32) -> u32
+    requires number { T (finite factor) }
+    requires sample { is_finite_bits bits ≡ true }
+    ensures { result ≡ multiplied factor bits }
+{
+    (f32::from_bits(bits) * factor).to_bits()
+}
+
+// Neither a NaN nor an infinity.
+fn is_finite_sample(bits: u32) -> bool
+    ensures { result ≡ is_finite_bits bits }
+{
+    bits % 0x8000_0000 < 0x7f80_0000
+}
+
+// Whether all samples are finite.
+fn are_finite(samples: &[u32]) -> bool
+    ensures { result ≡ true → (i : ℕ) → i < length samples.now → is_finite_bits (get_or samples.now i 0) ≡ true }
+{
+    let mut all = true;
+    for bits in samples {
+        all &= is_finite_sample(*bits);
+    }
+    all
+}
+
 // Each sample by its quotient.
 #[tactic(auto, using(lists::specs::Table::filled_none, lists::specs::Table::filled_more, lists::specs::Table::filled_end, lists::specs::Table::get_or_unfilled))]
-fn multiply_all(samples: &mut [u32], quotients: &[f32])
+fn multiply_any(samples: &mut [u32], quotients: &[f32])
     requires { length samples.old ≤ length quotients.now }
     ensures { samples.new
         ≡ table (length samples.old) (λ i. multiplied (get_or quotients.now i nan) (get_or samples.old i 0)) }
 {
     for (i, sample) in samples.iter_mut().enumerate() {
         *sample = multiplied(quotients[i], *sample);
+    }
+}
+
+// The same of finite samples and quotients.
+#[tactic(auto, using(lists::specs::Table::filled_none, lists::specs::Table::filled_more, lists::specs::Table::filled_end, lists::specs::Table::get_or_unfilled))]
+fn multiply_finite(samples: &mut [u32], quotients: &[f32])
+    requires enough { length samples.old ≤ length quotients.now }
+    requires samples { (i : ℕ) → i < length samples.old → is_finite_bits (get_or samples.old i 0) ≡ true }
+    requires numbers { (i : ℕ) → i < length quotients.now → T (finite (get_or quotients.now i nan)) }
+    ensures { samples.new
+        ≡ table (length samples.old) (λ i. multiplied (get_or quotients.now i nan) (get_or samples.old i 0)) }
+{
+    for (i, sample) in samples.iter_mut().enumerate() {
+        *sample = multiplied_finite(quotients[i], *sample);
+    }
+}
+
+// Each sample by its quotient, all of which are finite.
+fn multiply_all(samples: &mut [u32], quotients: &[f32])
+    requires enough { length samples.old ≤ length quotients.now }
+    requires numbers { (i : ℕ) → i < length quotients.now → T (finite (get_or quotients.now i nan)) }
+    ensures { samples.new
+        ≡ table (length samples.old) (λ i. multiplied (get_or quotients.now i nan) (get_or samples.old i 0)) }
+{
+    if are_finite(samples) {
+        multiply_finite(samples, quotients);
+    } else {
+        multiply_any(samples, quotients);
     }
 }
 
@@ -106,6 +164,7 @@ impl Ramp {
 
     /// Whether a block of 128 samples, of which the first `uncounted` don't count, has a sample with a factor.
     #[tactic(auto, unfolding(crate::specs::Factors::touches))]
+    #[inline(always)]
     pub fn touches(self, uncounted: usize) -> bool
         ensures { result ≡ touches 128 self uncounted }
     {
@@ -113,12 +172,12 @@ impl Ramp {
     }
 
     /// The factors of such a block.
-    #[tactic(auto, using(lists::specs::Table::filled_none, lists::specs::Table::filled_more, lists::specs::Table::filled_end, crate::proofs::Block::level_quotient), unfolding(crate::specs::Factors::factors_of))]
+    #[tactic(auto, using(lists::specs::Table::filled_none, lists::specs::Table::filled_more, lists::specs::Table::filled_end, crate::proofs::Block::level_quotient))]
     pub fn factors(self, uncounted: usize) -> Factors
-        ensures { result ≡ factors_of 128 self uncounted }
+        ensures { AreFactors 128 self uncounted result }
     {
         let slopes = self.slopes();
-        let frames = f32::from(slopes.length);
+        let frames = f32::from(slopes.length.max(1));
         let mut quotients = [0.0f32; 128];
         for i in 0..128usize {
             let level = slopes.level(i.saturating_sub(uncounted));
