@@ -6,10 +6,10 @@
 
 mod buffers;
 mod clips;
-mod pcm;
 mod playing;
 mod previewing;
 mod settings;
+mod whole_numbers;
 
 use buffer::{Refusal, Shape};
 use clip::WithOnset;
