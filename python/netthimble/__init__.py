@@ -24,7 +24,7 @@ from .players import Block, Player, factor
 from .staircase import Track, staircase
 from .tolerances import Tolerances
 
-__version__ = "1.2.0"
+__version__ = "1.3.0"
 __all__ = [
     "FRAMES", "NEVER", "WORDS", "Block", "Clip", "CountedBlock", "Counter", "Mended", "Player",
     "Refused", "Tolerances", "Track", "factor", "load", "load_old", "mend", "staircase",
