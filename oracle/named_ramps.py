@@ -105,7 +105,8 @@ def told_early_and_late():
 
 def counted():
     yield "ramp: silent blocks count nothing", [RR(4), *shown(B(), S(4 * D), B(D)), ones(), *shown(B(2 * D), B(3 * D), B(4 * D), B(5 * D)), "Z"]
-    yield "ramp: refused blocks count nothing", looped(200, B(), B(0.0), B(D, 1.0, 0.0), B(D, 1.0, 1.0, 128), B(D, 1.0, 1.0, 4096, 1), cents(D, 1.0, 12001), B(D))
+    refused = B(0.0), B(D, 1.0, 0.0), B(D, 1.0, 1.0, 128), B(D, 1.0, 1.0, 4096, 1), cents(D, 1.0, 12001)
+    yield "ramp: refused blocks count nothing", looped(200, B(), *refused, B(D))
     yield "ramp: the whole of the block that ends it counts", looped(4, T(60 / RATE), B(), B(D), B(2 * D))
     yield "ramp: a clip that runs out", [RR(200), ones(), S(), *shown(*blocks(5)), "Z"]
     yield "ramp: idle samples behind the duration count", [RR(200), ones(), S(0.0, 0.0, 100 / RATE), "L 1", *shown(*blocks(3)), "Z"]

@@ -144,7 +144,6 @@ class CountedRecord(ctypes.Structure):
     _fields_ = [("channels", c_size_t), ("refusal", c_uint32), ("keep_alive", c_bool), ("ended", c_bool)]
 
 
-
 class Marks(ctypes.Structure):
     frames: bool
     offsets: bool
